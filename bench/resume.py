@@ -50,7 +50,7 @@ def entry_count(program, path):
     return count
 
 
-def cursor_behind(program, path, count):
+def cursor_after(program, path, count):
     """The text of the cursor after so many entries: what the last line says."""
     process = subprocess.Popen([program, "tokens", "--count", str(count), path], stdout=subprocess.PIPE)
     end = b""
@@ -94,7 +94,7 @@ def main():
             file.write(PIECE * (SIZE // len(PIECE)))
         entries = entry_count(program, path)
         count = entries * 7 // 8
-        cursor = cursor_behind(program, path, count)
+        cursor = cursor_after(program, path, count)
         left, listing, resuming = times(timer, path, cursor)
     share = resuming / listing
     well = left == {entries - count} and share <= LARGEST_SHARE

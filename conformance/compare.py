@@ -385,8 +385,8 @@ def stream_differs(program, path, mine, found, data):
     told = mine.err.removeprefix(os.fsencode(path))
     if stream != mine._replace(err=told if told == mine.err else b"<stdin>" + told):
         return "pyast lists the standard input otherwise than the file"
-    behind_encoding = stream._replace(out=stream.out.partition(b"\n")[2])
-    if found in (SAME, BEFORE) and can_be_text(data) and behind_encoding != real_outcome([], data):
+    after_encoding = stream._replace(out=stream.out.partition(b"\n")[2])
+    if found in (SAME, BEFORE) and can_be_text(data) and after_encoding != real_outcome([], data):
         return "tokenize lists the standard input otherwise, ENCODING aside"
     return None
 

@@ -19,7 +19,7 @@ UNITS = {
 }
 # What the text of an expression is made of, where its literals and its brackets are looked for.
 PIECE = re.compile(r"'''.*?'''|\"\"\".*?\"\"\"|'[^']*'|\"[^\"]*\"|[!=<>]=|.", re.DOTALL)
-BEHIND = re.compile(r"(=[ \t\n\v\f]*)?(?:![sra])?")
+AFTER = re.compile(r"(=[ \t\n\v\f]*)?(?:![sra])?")
 NO_TOKENS = (tokenize.ENCODING, tokenize.NL, tokenize.NEWLINE, tokenize.ENDMARKER)
 
 QUOTED = "left out: quote or line end in a field"
@@ -63,9 +63,9 @@ def add_pieces(body, at, units, parts):
         if body[at:at + 1] != "{":
             return at
         end = end_of_expression(body, at + 1)
-        behind = BEHIND.match(body, end)
-        parts.fields.append((body[at + 1:end], behind[1] is not None))
-        at = behind.end()
+        after = AFTER.match(body, end)
+        parts.fields.append((body[at + 1:end], after[1] is not None))
+        at = after.end()
         if body[at:at + 1] == ":":
             at = add_pieces(body, at + 1, (units[0], 1), parts)
         at += 1

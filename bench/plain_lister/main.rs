@@ -3,7 +3,7 @@
 //! It is written as one writes such a program by hand, without contracts and crates. Its listing of
 //! a source in UTF-8 is that of `pyast tokens`, byte for byte. It holds the source whole, has no
 //! options, looks for no declared encoding, and takes for the letters of names past ASCII what the
-//! standard library does. At a fault it ends behind the entries before it, with status 1.
+//! standard library does. At a fault it ends after the entries before it, with status 1.
 
 use std::error::Error;
 use std::io::{self, Write};
@@ -54,15 +54,15 @@ impl Listing {
         Ok(())
     }
 
-    /// Appends blanks behind so many characters, up to a width.
+    /// Appends blanks after so many characters, up to a width.
     fn fill(&mut self, count: usize, width: usize) {
         let length = self.lines.len() + width.saturating_sub(count);
         self.lines.resize(length, b' ');
     }
 
-    /// Appends a number and what stands behind it.
-    fn push_number(&mut self, mut number: usize, behind: u8) {
-        let mut digits = [behind; 21];
+    /// Appends a number and what stands after it.
+    fn push_number(&mut self, mut number: usize, after: u8) {
+        let mut digits = [after; 21];
         let mut at = 20;
         while number > 0 || at == 20 {
             at -= 1;
@@ -138,8 +138,8 @@ impl Lister<'_> {
             return Err(self.fault("EOF in multi-line statement"));
         }
         if column > 0 && !last.trim_start_matches([' ', '\t', '\x0c']).starts_with('#') {
-            let behind = Place { row, column: column + 1 };
-            self.listing.push("NEWLINE", self.place, behind, "")?;
+            let after = Place { row, column: column + 1 };
+            self.listing.push("NEWLINE", self.place, after, "")?;
         }
         let end = Place { row: row + usize::from(column > 0), column: 0 };
         for _ in 1..self.levels.len() {
@@ -266,8 +266,8 @@ impl Lister<'_> {
             end += 1;
         }
         if bytes.get(end).is_some_and(|byte| !byte.is_ascii()) {
-            let is_behind = |c: char| !c.is_alphanumeric() && c != '_';
-            end += self.text[end..].find(is_behind).unwrap_or(self.text.len() - end);
+            let is_after = |c: char| !c.is_alphanumeric() && c != '_';
+            end += self.text[end..].find(is_after).unwrap_or(self.text.len() - end);
         }
         if matches!(bytes.get(end), Some(b'\'' | b'"')) && is_prefix(&self.text[self.at..end]) {
             return self.string(end);
@@ -346,7 +346,7 @@ fn is_prefix(text: &str) -> bool {
     ["r", "u", "b", "f", "br", "rb", "fr", "rf"].iter().any(|one| one.eq_ignore_ascii_case(text))
 }
 
-/// The end of some digits, each perhaps behind a `_`.
+/// The end of some digits, each perhaps after a `_`.
 fn digits_end(bytes: &[u8], mut at: usize, is_digit: fn(&u8) -> bool) -> usize {
     loop {
         at += match &bytes[at..] {
@@ -384,8 +384,8 @@ fn number_end(bytes: &[u8], start: usize) -> usize {
     }
     if let Some(b'e' | b'E') = bytes.get(end) {
         let digits = end + if let Some(b'+' | b'-') = bytes.get(end + 1) { 2 } else { 1 };
-        let behind = decimal_end(bytes, digits);
-        end = if behind > digits { behind } else { end };
+        let after = decimal_end(bytes, digits);
+        end = if after > digits { after } else { end };
     }
     match bytes.get(end) {
         Some(b'j' | b'J') => end + 1,

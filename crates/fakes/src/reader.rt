@@ -8,7 +8,7 @@ ghost use Rattle.pysource.specs.Bytes.{read_failures};
 
 use pysource::{ByteIn, ReadFailed};
 
-/// A reader of some bytes, which gives at most `most` of them at a read. Behind the last it ends,
+/// A reader of some bytes, which gives at most `most` of them at a read. After the last it ends,
 /// or every read fails.
 #[derive(Drop)]
 pub struct FakeReader<'a> {
@@ -53,7 +53,7 @@ impl ByteIn for FakeReader<'_> {
         self.failures
     }
 
-    /// Fails only behind the last byte, and only where the reader was told to.
+    /// Fails only after the last byte, and only where the reader was told to.
     fn read(&mut self, buf: &mut [u8]) -> Result<usize, ReadFailed>
         requires { self.old.failures < 2 ^ 64 - 1 }
         ensures bound { ReadsAtMost result buf.new }

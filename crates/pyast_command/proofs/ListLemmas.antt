@@ -20,7 +20,7 @@ use Rattle.pylex_listing.specs.Steps.{most_entries}
 use Rattle.pylex.specs.Streamed.{Streamed, StreamsIn, Next, Continues}
 use Rattle.pylex.proofs.Callers.{end_last, fault_last}
 use Rattle.pyast_fault.specs.Faults.{of_listing}
-use Rattle.pyast_command.specs.Listings.{cursor_line, left_behind, output_from, fault_from}
+use Rattle.pyast_command.specs.Listings.{cursor_line, left_after, output_from, fault_from}
 use Rattle.pyast_command.specs.Runs.{TakesAllBut, HoldsFor}
 use Rattle.pyast_command.specs.Inner.Taken.{Lists}
 use Rattle.pyast_fault.specs.declared.fault.Fault.{Fault}
@@ -31,7 +31,7 @@ use Rattle.pyast_command.proofs.OutputLemmas.{held_next, told_next, output_ended
 use Rattle.pyast_command.proofs.TakenLemmas.{is_broken, continues_none}
 
 -- In a source in which a lister stands: what was written and is held, and what is left, are what is
--- to be written behind its first k entries, and so for the fault.
+-- to be written after its first k entries, and so for the fault.
 pub record Stood (v : Streamed) (p : Parts) (k : ℕ) (more : List ℕ) (broken exact : Bool) (count left : Option ℕ) (x y : Option (List ℕ))
     (held : List ℕ) : Type 0 where
   pub stands : StreamsIn v p v.shown.given more broken
@@ -101,14 +101,14 @@ goes_on {seen_old = seen_old} {seen_mid = seen_mid} {seen_new = seen_new} {old =
   holds = λ p more broken f t. does p more broken f (c.stood p (s.taken ++ more) broken (s.follows more broken f) (rw append_assoc at t));
 }
 
--- an entry's line is held, and the lister stands behind it
+-- an entry's line is held, and the lister stands after it
 pub came_next : {seen_old seen_mid seen_new : Seen} {old mid new : Streamed} {step : Step} {e : Entry} {exact : Bool}
     {count left : Option ℕ} {x y : Option (List ℕ)} {before text held : List ℕ}
     → Came seen_old seen_mid old mid exact count left x y before → Next seen_mid seen_new mid new (Ok step)
     → step ≡ steps.Entry e → left ≢ Some 0
     → ((p : Parts) (k : ℕ) (more : List ℕ) (broken : Bool) → StreamsIn new p k more broken → text ≡ text_of p e)
     → held ≡ before ++ listing_line exact e text
-    → Came seen_old seen_new old new exact count (left_behind left e.kind) x y held
+    → Came seen_old seen_new old new exact count (left_after left e.kind) x y held
 came_next {seen_old = seen_old} {seen_mid = seen_mid} {seen_new = seen_new} {old = old} {mid = mid} {new = new} {e = e} {exact = exact}
     {count = count} {left = left} {x = x} {y = y} {before = before} {held = held} c s is n shown held_is = record {
       taken = c.taken ++ s.taken;
@@ -168,7 +168,7 @@ pub memory_held : {v : Streamed} {p : Parts} {k : ℕ} {more : List ℕ} {broken
     held (Some (Plain Memory))
 memory_held {v = v} {p = p} {exact = exact} {left = left} s = (output_from exact p left v.shown.given, s.holds)
 
--- where the count is reached, the cursor's line is held behind the others
+-- where the count is reached, the cursor's line is held after the others
 pub stopped_held : {v : Streamed} {p : Parts} {k : ℕ} {more : List ℕ} {broken exact : Bool} {count left : Option ℕ}
     {x y : Option (List ℕ)} {before held : List ℕ}
     → left ≡ Some 0 → held ≡ before ++ cursor_line v.shown → Stood v p k more broken exact count left x y before

@@ -34,7 +34,7 @@ use Rattle.pyast_command.specs.Inner.Taken.{TookAll, Starts, Lists}
 use Rattle.pyast_fault.specs.declared.fault.Fault.{Fault}
 use Rattle.pyast_fault.specs.declared.fault.Fault.TheVariants.{Plain}
 use Rattle.pyast_fault.specs.declared.fault.RunFaultCode.TheVariants.{Read, Memory, CursorOfAnotherSource}
-use Rattle.pyast_command.proofs.CursorLemmas.{starts_behind, starts_nowhere}
+use Rattle.pyast_command.proofs.CursorLemmas.{starts_after, starts_nowhere}
 use Rattle.pyast_command.proofs.TakenLemmas.{performs}
 use Rattle.pyast_command.proofs.UnreadLemmas.{quiet}
 
@@ -51,11 +51,11 @@ starts seen_old seen_new resume v k b given start = record {
       (s.0, s.1, start s.0 more broken s.2 ∙ ap (λ n. Some n) (sym given), subst (λ n. StreamsIn v s.0 n more broken) (sym given) s.2);
 }
 
--- behind a cursor
+-- after a cursor
 pub starts_at : (seen_old seen_new : Seen) (c : CursorParts) (v : Streamed) → Begins seen_old seen_new v c.given → v.shown ≡ c
     → Starts seen_old seen_new (Some c) v
 starts_at seen_old seen_new c v b shown = starts seen_old seen_new (Some c) v c.given b (ap (λ d. d.given) shown)
-    (λ p more broken s. starts_behind c (in_characters p) (subst (λ d. IsCursorOf d (in_characters p)) shown s.stands.cursor))
+    (λ p more broken s. starts_after c (in_characters p) (subst (λ d. IsCursorOf d (in_characters p)) shown s.stands.cursor))
 
 -- the output and the fault of what a reader gives
 abbrev pub output_by : Bool → Option ℕ → Option CursorParts → Bool → List ℕ → List ℕ
@@ -172,13 +172,13 @@ pub unresumed : (exact : Bool) (count : Option ℕ) (seen_old seen_new : Seen) (
 unresumed exact count seen_old seen_new c (resumes.Stream fault) x m = misses_stream exact count seen_old seen_new c fault x m
 unresumed exact count seen_old seen_new c resumes.AnotherSource x m = misses exact count seen_old seen_new c x m
 
--- where there is no memory behind the start, nothing is written
+-- where there is no memory after the start, nothing is written
 pub begun : (exact : Bool) (count : Option ℕ) (resume : Option CursorParts) (seen_old seen_new : Seen) (x : Option (List ℕ)) (v : Streamed)
     → Starts seen_old seen_new resume v
     → Performs (output_by exact count resume) (fault_by count resume) seen_old seen_new x x source_limit (Some (Plain Memory))
 begun exact count resume seen_old seen_new x v s = unread exact count resume seen_old seen_new x v.lines.reach _ s.all s.took
 
--- what was taken at the start, and behind it
+-- what was taken at the start, and after it
 all_taken : (seen_old seen_mid seen_new : Seen) (resume : Option CursorParts) (exact : Bool) (count : Option ℕ) (v : Streamed)
     (done : List ℕ → Option Fault → Type 0)
     → (s : Starts seen_old seen_mid resume v) → (g : Lists seen_mid seen_new v exact count done)
@@ -186,7 +186,7 @@ all_taken : (seen_old seen_mid seen_new : Seen) (resume : Option CursorParts) (e
 all_taken seen_old seen_mid seen_new resume exact count v done s g = ReadsBytes-on seen_old seen_mid seen_new 0 _ _ reach.Reading
     v.lines.reach g.new.reach s.all g.taken s.took g.reads
 
--- what was done behind the start
+-- what was done after the start
 pub listed : {exact : Bool} {count : Option ℕ} {resume : Option CursorParts} {seen_old seen_mid seen_new : Seen} {x y : Option (List ℕ)}
     {v : Streamed} {done : List ℕ → Option Fault → Type 0} {ended : Option Fault}
     → Starts seen_old seen_mid resume v → Lists seen_mid seen_new v exact count done

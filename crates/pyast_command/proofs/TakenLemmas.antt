@@ -57,7 +57,7 @@ module _ (output : Bool → List ℕ → List ℕ) (told : Bool → List ℕ →
   abbrev Done : Seen → Seen → Type 0
   Done seen_old seen_new = Performs output told seen_old seen_new x y source_limit ended
 
-  -- no failed read is told of bytes behind which none failed
+  -- no failed read is told of bytes after which none failed
   unread : (bytes : List ℕ) → WritesFor (output false bytes) (told false bytes) x y ended → ended ≡ Some (Plain Read) → ⊥
   unread bytes w is = quiet bytes (rw is at w).0
 

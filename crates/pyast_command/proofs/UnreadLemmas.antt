@@ -221,7 +221,7 @@ line_read charset row (line ∷ lines) =
     by_first None u rest = rest
     by_first (Some bad) u rest = u
 
--- bytes behind which no read failed are a source without such a line
+-- bytes after which no read failed are a source without such a line
 by_named : (r : Result Named SourceFault) (bytes : List ℕ) (p : Parts) → source_under r bytes ≡ Ok p → IsRead (option_map of_line p.fault)
 by_named (Err fault) bytes p is = cc
 by_named (Ok named) bytes p is = let e : parts_under named bytes ≡ p = cc in subst (λ (q : Parts). IsRead (option_map of_line q.fault)) e
@@ -305,7 +305,7 @@ quiet_under count resume (Ok named) bytes =
     by_line None u = tt
     by_line (Some f) u = u
 
--- no failed read is told of bytes behind which none failed
+-- no failed read is told of bytes after which none failed
 pub quiet : (count : Option ℕ) (resume : Option CursorParts) (bytes : List ℕ) → Quiet (tokens_fault count resume (stream_of false bytes))
 unfolding stream_of
 quiet count resume bytes = quiet_under count resume (encoding_of (nth_line bytes 0) (nth_line bytes 1)) bytes

@@ -45,24 +45,24 @@ ends_in_marker (e ∷ d ∷ es) = ends_in_marker (d ∷ es)
 abbrev pub stops_after : ℕ → List Entry → Bool
 stops_after n es = nat_le n (length es) && not (ends_in_marker (take n es))
 
--- what is written of a source behind its first k entries: the lines of all the others, or, where a count stops it, those of as many and
--- that of the cursor behind them
+-- what is written of a source after its first k entries: the lines of all the others, or, where a count stops it, those of as many and
+-- that of the cursor after them
 abbrev pub output_from : Bool → Parts → Option ℕ → ℕ → List ℕ
 output_from exact p None k = lines_of exact p (entries_of (rest (in_characters p) k))
 output_from exact p (Some n) k =
     let es = entries_of (rest (in_characters p) k) in
     if stops_after n es then lines_of exact p (take n es) ++ cursor_line (cursor (in_characters p) (k + n)) else lines_of exact p es
 
--- how many entries may still be listed behind one of this kind: without a count all, and so too where the last that it allows is ENDMARKER
-abbrev pub left_behind : Option ℕ → Kind → Option ℕ
-left_behind None kind = None
-left_behind (Some n) kind = if (n == 1) && is_marker kind then None else Some (n - 1)
+-- how many entries may still be listed after one of this kind: without a count all, and so too where the last that it allows is ENDMARKER
+abbrev pub left_after : Option ℕ → Kind → Option ℕ
+left_after None kind = None
+left_after (Some n) kind = if (n == 1) && is_marker kind then None else Some (n - 1)
 
 -- the fault that is told of steps, if they end by one
 abbrev pub told_of : List Step → Option Fault
 told_of steps = option_map of_listing (fault_of steps)
 
--- the fault that is told of a source behind its first k entries: none where a count stops it
+-- the fault that is told of a source after its first k entries: none where a count stops it
 abbrev pub fault_from : Parts → Option ℕ → ℕ → Option Fault
 fault_from p None k = told_of (rest (in_characters p) k)
 fault_from p (Some n) k = if stops_after n (entries_of (rest (in_characters p) k)) then None else told_of (rest (in_characters p) k)
@@ -95,7 +95,7 @@ tokens_fault count resume (Ok p) = elim (start_in resume (in_characters p)) [
 ]
 tokens_fault count resume (Err fault) = Some (of_stream fault)
 
--- the whole output of `tokens` on the bytes of a source, behind which a read failed or not, and the fault that it tells of them
+-- the whole output of `tokens` on the bytes of a source, after which a read failed or not, and the fault that it tells of them
 abbrev pub output_of : Tokens → Bool → List ℕ → List ℕ
 output_of asked broken bytes = tokens_output asked.exact asked.count asked.resume (stream_of broken bytes)
 

@@ -48,8 +48,8 @@ abbrev pub ended_by : {A : Type 0} → Result A Fault → Option Fault
 ended_by (Ok a) = None
 ended_by (Err fault) = Some fault
 
--- a read failed behind these bytes
-pub record FailsBehind (seen_old seen_new : Seen) (input : List ℕ) : Type 0 where
+-- a read failed after these bytes
+pub record FailsAfter (seen_old seen_new : Seen) (input : List ℕ) : Type 0 where
   pub front : Consumes seen_old.to_come seen_new.to_come input
   pub failed : seen_new.failures ≡ seen_old.failures + 1
 
@@ -61,7 +61,7 @@ pub record PassesLimit (seen_old seen_new : Seen) (limit : ℕ) (input : List �
   pub front : Consumes seen_old.to_come seen_new.to_come (input ++ past) ⊎ (seen_old.to_come ≡ Some (input ++ past))
   pub unfailed : seen_new.failures ≡ seen_old.failures
 
--- A run whose output and fault are known by what it reads (bytes, behind which a read failed or not) did so with what its reader gives:
+-- A run whose output and fault are known by what it reads (bytes, after which a read failed or not) did so with what its reader gives:
 -- the bytes up to the end, or those before a failed read or before the one that passes the limit.
 -- A failed read ends a run only where a read failed, or the reader gave more than a source may have.
 pub record Performs (output : Bool → List ℕ → List ℕ) (told : Bool → List ℕ → Option Fault) (seen_old seen_new : Seen)
@@ -70,7 +70,7 @@ pub record Performs (output : Bool → List ℕ → List ℕ) (told : Bool → L
   pub broken : Bool
   pub within : length input ≤ limit
   pub whole : broken ≡ false → IfSome seen_old.to_come (λ known. known ≡ input) × (seen_new.failures ≡ seen_old.failures)
-  pub cut : broken ≡ true → FailsBehind seen_old seen_new input ⊎ PassesLimit seen_old seen_new limit input
+  pub cut : broken ≡ true → FailsAfter seen_old seen_new input ⊎ PassesLimit seen_old seen_new limit input
   pub read : ended ≡ Some (Plain Read) → (seen_new.failures ≡ seen_old.failures + 1) ⊎ GivesTooMany seen_old.to_come seen_new.to_come limit
   pub writes : WritesFor (output broken input) (told broken input) old new ended
 

@@ -9,7 +9,7 @@ ghost use Rattle.pysource.specs.Taking.{fails};
 ghost use Rattle.pylex.specs.Streamed.{Continues, StreamsIn};
 ghost use Rattle.pyast_fault.specs.declared.fault.Fault.{Fault};
 ghost use Rattle.pyast_fault.specs.declared.fault.RunFaultCode.{RunFaultCode};
-ghost use Rattle.pyast_command.specs.Listings.{cursor_line, left_behind, tokens_output, tokens_fault};
+ghost use Rattle.pyast_command.specs.Listings.{cursor_line, left_after, tokens_output, tokens_fault};
 ghost use Rattle.pyast_command.specs.Listings.{output_of, fault_in};
 ghost use Rattle.pyast_command.specs.Runs.{HoldsFor, ended_by, Performs};
 ghost use Rattle.pyast_command.specs.Inner.Taken.{Starts, Lists};
@@ -39,9 +39,9 @@ fn push_cursor(output: &mut String, lister: &LineLister) -> Result<(), AllocErro
 
 /// How many entries may still be listed after one of this kind, of those that a count allows.
 /// Where the last of them is the end marker the count stops nothing: the listing comes to its end.
-fn left_behind(left: Option<u64>, kind: Kind) -> Option<u64>
+fn left_after(left: Option<u64>, kind: Kind) -> Option<u64>
     requires { left ≢ Some 0 }
-    ensures { result ≡ left_behind left kind }
+    ensures { result ≡ left_after left kind }
 {
     match left {
         Some(1) if kind == Kind::EndMarker => None,
@@ -88,7 +88,7 @@ fn list<R: ByteIn, W: ByteOut>(
         match lister.next(reader)? {
             Step::Entry(entry) => {
                 push_line(output, &entry, lister.text(&entry), exact)?;
-                left = left_behind(left, entry.kind);
+                left = left_after(left, entry.kind);
                 if output.len() >= ENOUGH {
                     write_all(writer, output.as_bytes())?;
                     output.clear();

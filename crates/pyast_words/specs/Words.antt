@@ -126,7 +126,7 @@ pub record IsUnparse (found : List Row) (asked : Unparse) : Type 0 where
   pub profile : IsProfile found asked.profile
   pub file : option_map string_bytes asked.file ≡ first_of (codes "FILE") found
 
--- the name of a subcommand and what was found behind it are the command
+-- the name of a subcommand and what was found after it are the command
 abbrev pub IsCommand : Option (List ℕ × List Row) → Command → Type 0
 IsCommand sub (commands.Tokens asked) = (found : List Row) × (sub ≡ Some (codes "tokens", found)) × IsTokens found asked
 IsCommand sub (commands.Dump asked) = (found : List Row) × (sub ≡ Some (codes "dump", found)) × IsDump found asked

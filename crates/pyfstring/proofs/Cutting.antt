@@ -5,7 +5,7 @@ use Rattle.std.proofs.lemmas.Option.{option_and_then_some, some_pair_parts}
 use Rattle.std.proofs.lemmas.Bool.{cases_Bool}
 use Rattle.pyfstring.specs.declared.parts.Manner.{Manner}
 use Rattle.pyfstring.specs.Characters.{left_curly_bracket}
-use Rattle.pyfstring.specs.Texts.{begins_with, behind_text}
+use Rattle.pyfstring.specs.Texts.{begins_with, after_text}
 use Rattle.pyfstring.specs.Parts.{FieldParts, Part, text, field, BodyPart}
 use Rattle.pyfstring.specs.Pieces.{IsText, IsField, Cuts, last_text, and_field, IsInnerSpec, IsSpec, IsCut}
 use Rattle.pyfstring.specs.Cutting.{before, Read, text_at, put_first, put_before, cut_within, cut_at, inner_field_at, spec_pieces_at}
@@ -14,8 +14,8 @@ use Rattle.pyfstring.proofs.Fronts.{before_is, before_whole, ends_length, begins
 use Rattle.pyfstring.proofs.Scanning.{text_ends}
 use Rattle.pyfstring.proofs.Reading.{Reads, map_some, text_reads, field_reads}
 
-is_text : (is_raw has_pairs : Bool) (cs : List ℕ) → IsText is_raw has_pairs cs (before cs (behind_text is_raw has_pairs cs))
-    (behind_text is_raw has_pairs cs)
+is_text : (is_raw has_pairs : Bool) (cs : List ℕ) → IsText is_raw has_pairs cs (before cs (after_text is_raw has_pairs cs))
+    (after_text is_raw has_pairs cs)
 is_text is_raw has_pairs cs = record { whole = before_whole cs _ (text_ends is_raw has_pairs cs); longest = refl }
 
 -- ---- Parts that are known already.
@@ -32,25 +32,25 @@ module _ {S : Type 0} (is_raw has_pairs : Bool) (fa : List ℕ → Read (FieldPa
   sound : (n : ℕ) (cs : List ℕ) (ps : List (Part S)) (r : List ℕ) → cut_within is_raw has_pairs fa n cs ≡ Some (ps, r)
       → Cuts is_raw has_pairs F cs ps r
   sound zero cs ps r e = cc
-  sound (suc n) cs ps r e = at_brace (sound n) (cases_Bool (begins_with left_curly_bracket (behind_text is_raw has_pairs cs)))
+  sound (suc n) cs ps r e = at_brace (sound n) (cases_Bool (begins_with left_curly_bracket (after_text is_raw has_pairs cs)))
     where
       at_brace : ((ds : List ℕ) (qs : List (Part S)) (t : List ℕ) → cut_within is_raw has_pairs fa n ds ≡ Some (qs, t)
-          → Cuts is_raw has_pairs F ds qs t) → (begins_with left_curly_bracket (behind_text is_raw has_pairs cs) ≡ true) ⊎
-          (begins_with left_curly_bracket (behind_text is_raw has_pairs cs) ≡ false) → Cuts is_raw has_pairs F cs ps r
+          → Cuts is_raw has_pairs F ds qs t) → (begins_with left_curly_bracket (after_text is_raw has_pairs cs) ≡ true) ⊎
+          (begins_with left_curly_bracket (after_text is_raw has_pairs cs) ≡ false) → Cuts is_raw has_pairs F cs ps r
       at_brace more (inr b) =
           let z : ◌≡◌ {A = Read (List (Part S))} (Some (
-            text (before cs (behind_text is_raw has_pairs cs)) ∷ [],
-            behind_text is_raw has_pairs cs,
+            text (before cs (after_text is_raw has_pairs cs)) ∷ [],
+            after_text is_raw has_pairs cs,
           )) (Some (ps, r)) = rw (b, cut_within) at e in
           let p = some_pair_parts _ _ _ _ z in
-          subst (λ y. Cuts is_raw has_pairs F cs ps y) p.1 (subst (λ y. Cuts is_raw has_pairs F cs y (behind_text is_raw has_pairs cs)) p.0
+          subst (λ y. Cuts is_raw has_pairs F cs ps y) p.1 (subst (λ y. Cuts is_raw has_pairs F cs y (after_text is_raw has_pairs cs)) p.0
           (last_text (is_text is_raw has_pairs cs) b))
       at_brace more (inl b) =
-          option_and_then_some _ (fa (drop 1 (behind_text is_raw has_pairs cs))) (ps, r) (rw (b, cut_within) at e) (λ f ef hf.
+          option_and_then_some _ (fa (drop 1 (after_text is_raw has_pairs cs))) (ps, r) (rw (b, cut_within) at e) (λ f ef hf.
           map_some _ (cut_within is_raw has_pairs fa n f.1) (ps, r) hf (λ x ex hx.
-          let made : Cuts is_raw has_pairs F cs (text (before cs (behind_text is_raw has_pairs cs)) ∷ field f.0 ∷ x.0) x.1 =
-          and_field (subst (λ y. IsText is_raw has_pairs cs (before cs (behind_text is_raw has_pairs cs)) y)
-          (begins_is left_curly_bracket _ b) (is_text is_raw has_pairs cs)) (reads.sound (drop 1 (behind_text is_raw has_pairs cs)) f.0
+          let made : Cuts is_raw has_pairs F cs (text (before cs (after_text is_raw has_pairs cs)) ∷ field f.0 ∷ x.0) x.1 =
+          and_field (subst (λ y. IsText is_raw has_pairs cs (before cs (after_text is_raw has_pairs cs)) y)
+          (begins_is left_curly_bracket _ b) (is_text is_raw has_pairs cs)) (reads.sound (drop 1 (after_text is_raw has_pairs cs)) f.0
           f.1 ef) (more f.1 x.0 x.1 ex) in
           subst (λ (q : List (Part S) × List ℕ). Cuts is_raw has_pairs F cs q.0 q.1) hx made))
 
@@ -58,27 +58,27 @@ module _ {S : Type 0} (is_raw has_pairs : Bool) (fa : List ℕ → Read (FieldPa
       → cut_within is_raw has_pairs fa n cs ≡ Some (ps, r)
   complete zero c l = absurd (omega arith)
   complete (suc n) (last_text {cs = cs} {t = t} {rest = r} i b) l =
-      let w : before cs (behind_text is_raw has_pairs cs) ≡ t = ap (before cs) i.longest ∙ before_is cs t r i.whole in
-      let stop : begins_with left_curly_bracket (behind_text is_raw has_pairs cs) ≡ false =
+      let w : before cs (after_text is_raw has_pairs cs) ≡ t = ap (before cs) i.longest ∙ before_is cs t r i.whole in
+      let stop : begins_with left_curly_bracket (after_text is_raw has_pairs cs) ≡ false =
       ap (begins_with left_curly_bracket) i.longest ∙ b in
       rw (stop, w, i.longest, cut_within) refl
-  complete (suc n) (and_field {cs = cs} {t = t} {inside = inside} {behind = behind} {rest = r} {f = f} {parts = ps} i d c) l =
+  complete (suc n) (and_field {cs = cs} {t = t} {inside = inside} {following = following} {rest = r} {f = f} {parts = ps} i d c) l =
       let short : length (left_curly_bracket ∷ inside) ≤ length cs = ends_length cs _ (t, i.whole) in
-      let less : length behind ≤ length inside = reads.shorter inside f behind d in
-      let more : cut_within is_raw has_pairs fa n behind ≡ Some (ps, r) = complete n c (omega arith) in
-      let w : before cs (behind_text is_raw has_pairs cs) ≡ t = ap (before cs) i.longest
+      let less : length following ≤ length inside = reads.shorter inside f following d in
+      let more : cut_within is_raw has_pairs fa n following ≡ Some (ps, r) = complete n c (omega arith) in
+      let w : before cs (after_text is_raw has_pairs cs) ≡ t = ap (before cs) i.longest
       ∙ before_is cs t (left_curly_bracket ∷ inside) i.whole in
-      let goes : begins_with left_curly_bracket (behind_text is_raw has_pairs cs) ≡ true = ap (begins_with left_curly_bracket) i.longest in
-      let first : fa (drop 1 (behind_text is_raw has_pairs cs)) ≡ Some (f, behind) = ap (λ (y : List ℕ). fa (drop 1 y)) i.longest
-      ∙ reads.complete inside f behind d in
+      let goes : begins_with left_curly_bracket (after_text is_raw has_pairs cs) ≡ true = ap (begins_with left_curly_bracket) i.longest in
+      let first : fa (drop 1 (after_text is_raw has_pairs cs)) ≡ Some (f, following) = ap (λ (y : List ℕ). fa (drop 1 y)) i.longest
+      ∙ reads.complete inside f following d in
       rw (goes, first, more, w, cut_within) refl
 
   below : {cs : List ℕ} {ps : List (Part S)} {r : List ℕ} → Cuts is_raw has_pairs F cs ps r → length r ≤ length cs
   below (last_text {cs = cs} {t = t} {rest = r} i b) = ends_length cs r (t, i.whole)
-  below (and_field {cs = cs} {t = t} {inside = inside} {behind = behind} {rest = r} {f = f} i d c) =
+  below (and_field {cs = cs} {t = t} {inside = inside} {following = following} {rest = r} {f = f} i d c) =
       let short : length (left_curly_bracket ∷ inside) ≤ length cs = ends_length cs _ (t, i.whole) in
-      let less : length behind ≤ length inside = reads.shorter inside f behind d in
-      let rest : length r ≤ length behind = below c in
+      let less : length following ≤ length inside = reads.shorter inside f following d in
+      let rest : length r ≤ length following = below c in
       omega arith
 
   pub cut_reads : Reads (cut_at is_raw has_pairs fa) (Cuts is_raw has_pairs F)
@@ -91,13 +91,13 @@ module _ {S : Type 0} (is_raw has_pairs : Bool) (fa : List ℕ → Read (FieldPa
 
   -- ---- One step of a cut.
 
-  pub cut_stops : (cs : List ℕ) → begins_with left_curly_bracket (behind_text is_raw has_pairs cs) ≡ false
-      → cut_at is_raw has_pairs fa cs ≡ Some (text (before cs (behind_text is_raw has_pairs cs)) ∷ [], behind_text is_raw has_pairs cs)
+  pub cut_stops : (cs : List ℕ) → begins_with left_curly_bracket (after_text is_raw has_pairs cs) ≡ false
+      → cut_at is_raw has_pairs fa cs ≡ Some (text (before cs (after_text is_raw has_pairs cs)) ∷ [], after_text is_raw has_pairs cs)
   unfolding cut_at
   cut_stops cs b = rw (b, cut_within) refl
 
-  pub cut_fails : (cs : List ℕ) → begins_with left_curly_bracket (behind_text is_raw has_pairs cs) ≡ true
-      → fa (drop 1 (behind_text is_raw has_pairs cs)) ≡ None → cut_at is_raw has_pairs fa cs ≡ None
+  pub cut_fails : (cs : List ℕ) → begins_with left_curly_bracket (after_text is_raw has_pairs cs) ≡ true
+      → fa (drop 1 (after_text is_raw has_pairs cs)) ≡ None → cut_at is_raw has_pairs fa cs ≡ None
   unfolding cut_at
   cut_fails cs b e = rw (b, e, cut_within) refl
 
@@ -111,29 +111,29 @@ module _ {S : Type 0} (is_raw has_pairs : Bool) (fa : List ℕ → Read (FieldPa
       same (Some x) p e f = e ∙ sym (complete m (sound n cs x.0 x.1 e) k)
       same None (Some x) e f = complete n (sound m cs x.0 x.1 f) l ∙ sym f
 
-  pub cut_goes : (cs : List ℕ) (f : FieldParts S) (r : List ℕ) → begins_with left_curly_bracket (behind_text is_raw has_pairs cs) ≡ true
-      → fa (drop 1 (behind_text is_raw has_pairs cs)) ≡ Some (f, r)
-      → cut_at is_raw has_pairs fa cs ≡ put_first (before cs (behind_text is_raw has_pairs cs)) f (cut_at is_raw has_pairs fa r)
+  pub cut_goes : (cs : List ℕ) (f : FieldParts S) (r : List ℕ) → begins_with left_curly_bracket (after_text is_raw has_pairs cs) ≡ true
+      → fa (drop 1 (after_text is_raw has_pairs cs)) ≡ Some (f, r)
+      → cut_at is_raw has_pairs fa cs ≡ put_first (before cs (after_text is_raw has_pairs cs)) f (cut_at is_raw has_pairs fa r)
   unfolding cut_at
   cut_goes cs f r b e =
-      let short : length (behind_text is_raw has_pairs cs) ≤ length cs = ends_length cs _ (text_ends is_raw has_pairs cs) in
-      let one = ap length (begins_is left_curly_bracket (behind_text is_raw has_pairs cs) b) in
-      let less : length r ≤ length (drop 1 (behind_text is_raw has_pairs cs)) = reads.shorter _ f r (reads.sound _ f r e) in
+      let short : length (after_text is_raw has_pairs cs) ≤ length cs = ends_length cs _ (text_ends is_raw has_pairs cs) in
+      let one = ap length (begins_is left_curly_bracket (after_text is_raw has_pairs cs) b) in
+      let less : length r ≤ length (drop 1 (after_text is_raw has_pairs cs)) = reads.shorter _ f r (reads.sound _ f r e) in
       let same = enough (length cs) (suc (length r)) r (omega arith) (omega arith) in
       rw (b, e, same, cut_within) refl
 
-  pub cut_shorter : (cs : List ℕ) (f : FieldParts S) (r : List ℕ) → begins_with left_curly_bracket (behind_text is_raw has_pairs cs) ≡ true
-      → fa (drop 1 (behind_text is_raw has_pairs cs)) ≡ Some (f, r) → length r < length cs
+  pub cut_shorter : (cs : List ℕ) (f : FieldParts S) (r : List ℕ) → begins_with left_curly_bracket (after_text is_raw has_pairs cs) ≡ true
+      → fa (drop 1 (after_text is_raw has_pairs cs)) ≡ Some (f, r) → length r < length cs
   cut_shorter cs f r b e =
-      let short : length (behind_text is_raw has_pairs cs) ≤ length cs = ends_length cs _ (text_ends is_raw has_pairs cs) in
-      let one = ap length (begins_is left_curly_bracket (behind_text is_raw has_pairs cs) b) in
-      let less : length r ≤ length (drop 1 (behind_text is_raw has_pairs cs)) = reads.shorter _ f r (reads.sound _ f r e) in
+      let short : length (after_text is_raw has_pairs cs) ≤ length cs = ends_length cs _ (text_ends is_raw has_pairs cs) in
+      let one = ap length (begins_is left_curly_bracket (after_text is_raw has_pairs cs) b) in
+      let less : length r ≤ length (drop 1 (after_text is_raw has_pairs cs)) = reads.shorter _ f r (reads.sound _ f r e) in
       omega arith
 
   -- ---- A loop that has the parts up to `cs`.
 
   pub loop_ends : (old cs here t : List ℕ) (done parts : List (Part S)) → cut_at is_raw has_pairs fa old ≡ put_before done
-      (cut_at is_raw has_pairs fa cs) → here ≡ behind_text is_raw has_pairs cs → t ≡ before cs here
+      (cut_at is_raw has_pairs fa cs) → here ≡ after_text is_raw has_pairs cs → t ≡ before cs here
       → begins_with left_curly_bracket here ≡ false → parts ≡ done ++ text t ∷ [] → cut_at is_raw has_pairs fa old ≡ Some (parts, here)
   loop_ends old cs here t done parts inv l w b p =
       inv
@@ -143,25 +143,25 @@ module _ {S : Type 0} (is_raw has_pairs : Bool) (fa : List ℕ → Read (FieldPa
       ∙ ap (λ (x : List (Part S)). Some (x, here)) (sym p)
 
   pub loop_fails : (old cs here : List ℕ) (done : List (Part S)) → cut_at is_raw has_pairs fa old ≡ put_before done
-      (cut_at is_raw has_pairs fa cs) → here ≡ behind_text is_raw has_pairs cs → begins_with left_curly_bracket here ≡ true
+      (cut_at is_raw has_pairs fa cs) → here ≡ after_text is_raw has_pairs cs → begins_with left_curly_bracket here ≡ true
       → fa (drop 1 here) ≡ None → cut_at is_raw has_pairs fa old ≡ None
   loop_fails old cs here done inv l b e =
       inv ∙ ap (put_before done) (cut_fails cs (ap (begins_with left_curly_bracket) (sym l) ∙ b)
       (ap (λ (x : List ℕ). fa (drop 1 x)) (sym l) ∙ e))
 
   pub loop_goes : (old cs here t r : List ℕ) (f : FieldParts S) (done parts : List (Part S))
-      → cut_at is_raw has_pairs fa old ≡ put_before done (cut_at is_raw has_pairs fa cs) → here ≡ behind_text is_raw has_pairs cs
+      → cut_at is_raw has_pairs fa old ≡ put_before done (cut_at is_raw has_pairs fa cs) → here ≡ after_text is_raw has_pairs cs
       → t ≡ before cs here → begins_with left_curly_bracket here ≡ true → fa (drop 1 here) ≡ Some (f, r)
       → parts ≡ (done ++ text t ∷ []) ++ field f ∷ [] → cut_at is_raw has_pairs fa old ≡ put_before parts (cut_at is_raw has_pairs fa r)
   loop_goes old cs here t r f done parts inv l w b e p =
       inv
       ∙ ap (put_before done) (cut_goes cs f r (ap (begins_with left_curly_bracket) (sym l) ∙ b)
       (ap (λ (x : List ℕ). fa (drop 1 x)) (sym l) ∙ e))
-      ∙ put_two done (before cs (behind_text is_raw has_pairs cs)) f (cut_at is_raw has_pairs fa r)
+      ∙ put_two done (before cs (after_text is_raw has_pairs cs)) f (cut_at is_raw has_pairs fa r)
       ∙ ap (λ (x : List ℕ). put_before ((done ++ text x ∷ []) ++ field f ∷ []) (cut_at is_raw has_pairs fa r)) (sym (w ∙ ap (before cs) l))
       ∙ ap (λ (x : List (Part S)). put_before x (cut_at is_raw has_pairs fa r)) (sym p)
 
-  pub loop_shorter : (cs here r : List ℕ) (f : FieldParts S) → here ≡ behind_text is_raw has_pairs cs
+  pub loop_shorter : (cs here r : List ℕ) (f : FieldParts S) → here ≡ after_text is_raw has_pairs cs
       → begins_with left_curly_bracket here ≡ true → fa (drop 1 here) ≡ Some (f, r) → length r < length cs
   loop_shorter cs here r f l b e = cut_shorter cs f r (ap (begins_with left_curly_bracket) (sym l) ∙ b)
       (ap (λ (x : List ℕ). fa (drop 1 x)) (sym l) ∙ e)

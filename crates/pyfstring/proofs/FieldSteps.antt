@@ -7,9 +7,9 @@ use Rattle.pyfstring.specs.declared.parts.Conversion.{Conversion}
 use Rattle.pyfstring.specs.declared.parts.Conversion.TheVariants.{None as Unconverted}
 use Rattle.pyfstring.specs.Characters.{exclamation_mark, equals_sign, right_curly_bracket}
 use Rattle.pyfstring.specs.Texts.{begins_with}
-use Rattle.pyfstring.specs.Expressions.{behind_expression}
-use Rattle.pyfstring.specs.Pieces.{is_blank, behind_blanks}
-use Rattle.pyfstring.specs.Cutting.{Read, before, expression_at, kept_at, conversion_by, conversion_at, front_at, behind_closing}
+use Rattle.pyfstring.specs.Expressions.{following_expression}
+use Rattle.pyfstring.specs.Pieces.{is_blank, after_blanks}
+use Rattle.pyfstring.specs.Cutting.{Read, before, expression_at, kept_at, conversion_by, conversion_at, front_at, after_closing}
 use Rattle.pyfstring.specs.Inner.Passing.{eaten}
 
 pub eaten_some : (c : ℕ) (cs : List ℕ) → begins_with c cs ≡ true → eaten c cs ≡ drop 1 cs
@@ -22,13 +22,13 @@ eaten_none c (d ∷ cs) e = rw e refl
 
 -- ---- The closing brace.
 
-pub closing_some : (cs : List ℕ) → begins_with right_curly_bracket cs ≡ true → behind_closing cs ≡ Some (drop 1 cs)
-unfolding behind_closing
-closing_some cs e = rw (e, behind_closing) refl
+pub closing_some : (cs : List ℕ) → begins_with right_curly_bracket cs ≡ true → after_closing cs ≡ Some (drop 1 cs)
+unfolding after_closing
+closing_some cs e = rw (e, after_closing) refl
 
-pub closing_none : (cs : List ℕ) → begins_with right_curly_bracket cs ≡ false → behind_closing cs ≡ None
-unfolding behind_closing
-closing_none cs e = rw (e, behind_closing) refl
+pub closing_none : (cs : List ℕ) → begins_with right_curly_bracket cs ≡ false → after_closing cs ≡ None
+unfolding after_closing
+closing_none cs e = rw (e, after_closing) refl
 
 -- ---- The conversion.
 
@@ -77,23 +77,23 @@ unfolding kept_at
 kept_fails is_nested cs here e n = rw (e, n, kept_at) refl
 
 pub kept_given : (is_nested : Bool) (cs here : List ℕ) → begins_with equals_sign here ≡ true → is_nested ≡ false
-    → kept_at is_nested cs here ≡ Some (Some (before cs (behind_blanks (drop 1 here))), behind_blanks (drop 1 here))
+    → kept_at is_nested cs here ≡ Some (Some (before cs (after_blanks (drop 1 here))), after_blanks (drop 1 here))
 unfolding kept_at
 kept_given is_nested cs here e n = rw (e, n, kept_at) refl
 
 -- ---- The expression.
 
-pub expression_fails : (cs : List ℕ) → behind_expression cs ≡ None → expression_at cs ≡ None
+pub expression_fails : (cs : List ℕ) → following_expression cs ≡ None → expression_at cs ≡ None
 unfolding expression_at
 expression_fails cs e = rw e refl
 
-pub expression_blank : (cs r : List ℕ) → behind_expression cs ≡ Some r → list_all is_blank (before cs r) ≡ true → expression_at cs ≡ None
+pub expression_blank : (cs r : List ℕ) → following_expression cs ≡ Some r → list_all is_blank (before cs r) ≡ true → expression_at cs ≡ None
 unfolding expression_at
 expression_blank cs r e b =
     rw e (let P : Bool → Type 0 = λ t. ◌≡◌ {A = Read (List ℕ)} (elim t [ true ↦ None | false ↦ Some (before cs r, r) ])
     None in subst P (sym b) refl)
 
-pub expression_given : (cs r : List ℕ) → behind_expression cs ≡ Some r → list_all is_blank (before cs r) ≡ false
+pub expression_given : (cs r : List ℕ) → following_expression cs ≡ Some r → list_all is_blank (before cs r) ≡ false
     → expression_at cs ≡ Some (before cs r, r)
 unfolding expression_at
 expression_given cs r e b =

@@ -11,7 +11,7 @@ use Rattle.pyfstring.specs.Characters.{colon}
 use Rattle.pyfstring.specs.Texts.{begins_with}
 use Rattle.pyfstring.specs.Parts.{FieldParts, BodyPart, field_of, text_of}
 use Rattle.pyfstring.specs.Pieces.{conversion_of}
-use Rattle.pyfstring.specs.Cutting.{Read, FrontParts, front_at, with_spec, spec_at, behind_closing, field_at, cut_of, body_pieces_at}
+use Rattle.pyfstring.specs.Cutting.{Read, FrontParts, front_at, with_spec, spec_at, after_closing, field_at, cut_of, body_pieces_at}
 use Rattle.pyfstring.specs.Inner.Passing.{is_nothing}
 use Rattle.pyfstring.specs.Inner.Fronts.{front_of, IsWith}
 
@@ -59,12 +59,12 @@ module _ {S : Type 0} (spec : List ℕ → Read S) where
   field_no_spec n cs f r e g = rw (e, g) refl
 
   pub field_no_closing : (n : Bool) (cs : List ℕ) (f : FrontParts) (r : List ℕ) (s : Option S) (u : List ℕ) → front_at n cs ≡ Some (f, r)
-      → spec_at spec r ≡ Some (s, u) → behind_closing u ≡ None → field_at spec n cs ≡ None
+      → spec_at spec r ≡ Some (s, u) → after_closing u ≡ None → field_at spec n cs ≡ None
   unfolding field_at
   field_no_closing n cs f r s u e g h = rw (e, g, h) refl
 
   pub field_given : (n : Bool) (cs : List ℕ) (f : FrontParts) (r : List ℕ) (s : Option S) (u v : List ℕ) → front_at n cs ≡ Some (f, r)
-      → spec_at spec r ≡ Some (s, u) → behind_closing u ≡ Some v → field_at spec n cs ≡ Some (with_spec f s, v)
+      → spec_at spec r ≡ Some (s, u) → after_closing u ≡ Some v → field_at spec n cs ≡ Some (with_spec f s, v)
   unfolding field_at
   field_given n cs f r s u v e g h = rw (e, g, h) refl
 

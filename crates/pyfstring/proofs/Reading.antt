@@ -8,13 +8,13 @@ use Rattle.std.proofs.lemmas.Bool.{cases_Bool, eqb-true}
 use Rattle.pyfstring.specs.declared.parts.Conversion.{Conversion}
 use Rattle.pyfstring.specs.declared.parts.Conversion.TheVariants.{None as Unconverted, Str, Repr, Ascii}
 use Rattle.pyfstring.specs.Characters.{exclamation_mark, colon, equals_sign, small_a, small_r, small_s, right_curly_bracket}
-use Rattle.pyfstring.specs.Texts.{begins_with, behind_text}
-use Rattle.pyfstring.specs.Expressions.{behind_expression}
+use Rattle.pyfstring.specs.Texts.{begins_with, after_text}
+use Rattle.pyfstring.specs.Expressions.{following_expression}
 use Rattle.pyfstring.specs.Parts.{FieldParts}
 use Rattle.pyfstring.specs.Pieces.{IsText, IsExpression, Keeps, unkept, kept, Converts, unconverted, by_str, by_repr, by_ascii, Specifies}
-use Rattle.pyfstring.specs.Pieces.{unspecified, specified, IsField, is_blank, behind_blanks}
+use Rattle.pyfstring.specs.Pieces.{unspecified, specified, IsField, is_blank, after_blanks}
 use Rattle.pyfstring.specs.Cutting.{EndsWith, before, text_at, expression_at, kept_at, conversion_by, conversion_at, FrontParts, Read}
-use Rattle.pyfstring.specs.Cutting.{front_at, with_spec, spec_at, behind_closing, field_at}
+use Rattle.pyfstring.specs.Cutting.{front_at, with_spec, spec_at, after_closing, field_at}
 use Rattle.pyfstring.proofs.Fronts.{before_is, before_whole, ends_drop, ends_through, ends_one, ends_length, ends_all, begins_is}
 use Rattle.pyfstring.proofs.Scanning.{text_ends, expression_ends}
 
@@ -36,9 +36,9 @@ unfolding text_at
 text_reads is_raw has_pairs = record {
   sound = λ cs t r e.
       let p = some_pair_parts _ _ _ _ e in
-      let whole = before_whole cs (behind_text is_raw has_pairs cs) (text_ends is_raw has_pairs cs) in
+      let whole = before_whole cs (after_text is_raw has_pairs cs) (text_ends is_raw has_pairs cs) in
       record {
-        whole = subst (λ x. cs ≡ x ++ r) p.0 (subst (λ x. cs ≡ before cs (behind_text is_raw has_pairs cs) ++ x) p.1 whole);
+        whole = subst (λ x. cs ≡ x ++ r) p.0 (subst (λ x. cs ≡ before cs (after_text is_raw has_pairs cs) ++ x) p.1 whole);
         longest = p.1;
       };
   complete = λ cs t r i. rw (i.longest, before_is cs t r i.whole) refl;
@@ -48,7 +48,7 @@ text_reads is_raw has_pairs = record {
 pub expression_reads : Reads expression_at IsExpression
 unfolding expression_at
 expression_reads = record {
-  sound = λ cs t r e. option_and_then_some _ (behind_expression cs) (t, r) e
+  sound = λ cs t r e. option_and_then_some _ (following_expression cs) (t, r) e
       (λ x s h. found cs t r x s (cases_Bool (list_all is_blank (before cs x))) h);
   complete = λ cs t r i. let w = before_is cs t r i.whole in
       rw i.scanned (subst (λ (y : List ℕ). ◌≡◌ {A = Read (List ℕ)} (elim (list_all is_blank y) [ true ↦ None | false ↦ Some (y, r) ])
@@ -57,7 +57,7 @@ expression_reads = record {
   shorter = λ cs t r i. whole_length cs t r i.whole;
 }
   where
-    found : (cs t r x : List ℕ) → behind_expression cs ≡ Some x
+    found : (cs t r x : List ℕ) → following_expression cs ≡ Some x
         → (list_all is_blank (before cs x) ≡ true) ⊎ (list_all is_blank (before cs x) ≡ false)
         → ◌≡◌ {A = Read (List ℕ)} (elim (list_all is_blank (before cs x)) [ true ↦ None | false ↦ Some (before cs x, x) ])
         (Some (t, r)) → IsExpression cs t r
@@ -79,17 +79,17 @@ slot_reads is_nested cs here k rest w e = at_sign (cases_Bool (begins_with equal
   where
     at_nested : (n : Bool) → n ≡ is_nested → here ≡ equals_sign ∷ drop 1 here
         → ◌≡◌ {A = Read (Option (List ℕ))}
-        (elim n [ true ↦ None | false ↦ Some (Some (before cs (behind_blanks (drop 1 here))), behind_blanks (drop 1 here)) ])
+        (elim n [ true ↦ None | false ↦ Some (Some (before cs (after_blanks (drop 1 here))), after_blanks (drop 1 here)) ])
         (Some (k, rest)) → Keeps is_nested cs here k rest
     at_nested true n h z = cc
     at_nested false n h z =
         let p = some_pair_parts _ _ _ _ z in
-        let back = before_whole cs (behind_blanks (drop 1 here))
+        let back = before_whole cs (after_blanks (drop 1 here))
         (ends_through cs here _ w (ends_through here (drop 1 here) _ (ends_drop 1 here) (ends_drop _ (drop 1 here)))) in
-        let made : Keeps is_nested cs (equals_sign ∷ drop 1 here) (Some (before cs (behind_blanks (drop 1 here))))
-        (behind_blanks (drop 1 here)) = kept (sym n) back in
-        subst (λ y. Keeps is_nested cs here k y) p.1 (subst (λ y. Keeps is_nested cs here y (behind_blanks (drop 1 here))) p.0
-        (subst (λ y. Keeps is_nested cs y (Some (before cs (behind_blanks (drop 1 here)))) (behind_blanks (drop 1 here))) (sym h) made))
+        let made : Keeps is_nested cs (equals_sign ∷ drop 1 here) (Some (before cs (after_blanks (drop 1 here))))
+        (after_blanks (drop 1 here)) = kept (sym n) back in
+        subst (λ y. Keeps is_nested cs here k y) p.1 (subst (λ y. Keeps is_nested cs here y (after_blanks (drop 1 here))) p.0
+        (subst (λ y. Keeps is_nested cs y (Some (before cs (after_blanks (drop 1 here)))) (after_blanks (drop 1 here))) (sym h) made))
 
     at_sign : (begins_with equals_sign here ≡ true) ⊎ (begins_with equals_sign here ≡ false) → Keeps is_nested cs here k rest
     at_sign (inl b) = at_nested is_nested refl (begins_is equals_sign here b) (rw (b, kept_at) at e)
@@ -103,7 +103,7 @@ pub slot_kept : (is_nested : Bool) (cs here : List ℕ) (k : Option (List ℕ)) 
 unfolding kept_at
 slot_kept is_nested cs here k rest (unkept b) = (rw (b, kept_at) refl, ends_all here)
 slot_kept is_nested cs here k rest (kept {here = inside} {k = t} n w) = (
-  rw (kept_at, n, before_is cs t (behind_blanks inside) w) refl,
+  rw (kept_at, n, before_is cs t (after_blanks inside) w) refl,
   ends_one equals_sign inside _ (ends_drop _ inside),
 )
 
@@ -131,10 +131,10 @@ conversion_reads = record {
             (subst (λ l. Converts (exclamation_mark ∷ small_a ∷ cs) l cs) y by_ascii)
         letters (inr s) (inr r) (inr a) = let z : ◌≡◌ {A = Option Conversion} None (Some k) = rw (s, r, a) at e in cc
 
-    behind_sign : (cs : List ℕ) (k : Conversion) (r : List ℕ) → option_map {U = Conversion × List ℕ} (λ (l : Conversion). (l, drop 1 cs))
+    following_sign : (cs : List ℕ) (k : Conversion) (r : List ℕ) → option_map {U = Conversion × List ℕ} (λ (l : Conversion). (l, drop 1 cs))
         (option_and_then conversion_by (slice_get cs 0)) ≡ Some (k, r) → Converts (exclamation_mark ∷ cs) k r
-    behind_sign [] k r e = cc
-    behind_sign (c ∷ cs) k r e = map_some _ (conversion_by c) (k, r) e (λ l g h. let y : l ≡ k = ap (λ (p : Conversion × List ℕ). p.0) h in
+    following_sign [] k r e = cc
+    following_sign (c ∷ cs) k r e = map_some _ (conversion_by c) (k, r) e (λ l g h. let y : l ≡ k = ap (λ (p : Conversion × List ℕ). p.0) h in
         let z : cs ≡ r = ap (λ (p : Conversion × List ℕ). p.1) h in subst (λ x. Converts (exclamation_mark ∷ c ∷ cs) k x) z
         (at_letter cs c k (g ∙ ap (λ x. Some x) y)))
 
@@ -142,7 +142,7 @@ conversion_reads = record {
         → (begins_with exclamation_mark cs ≡ true) ⊎ (begins_with exclamation_mark cs ≡ false) → Converts cs k r
     at_sign [] k r e (inl b) = cc
     at_sign (c ∷ cs) k r e (inl b) = let q : c ≡ exclamation_mark = eqb-true c exclamation_mark b in
-        subst (λ d. Converts (d ∷ cs) k r) (sym q) (behind_sign cs k r (rw (b, conversion_at) at e))
+        subst (λ d. Converts (d ∷ cs) k r) (sym q) (following_sign cs k r (rw (b, conversion_at) at e))
     at_sign cs k r e (inr b) =
         let z : ◌≡◌ {A = Read Conversion} (Some (Unconverted, cs)) (Some (k, r)) = rw (b, conversion_at) at e in
         let p = some_pair_parts _ _ _ _ z in
@@ -227,12 +227,12 @@ module _ {S : Type 0} (spec : List ℕ → Read S) (IsSpec : List ℕ → S → 
       (rw (spec_at, reads.complete inside x r i) refl, (let l = reads.shorter inside x r i in omega arith))
 
   pub field_reads : (is_nested : Bool) → Reads (field_at spec is_nested) (IsField IsSpec is_nested)
-  unfolding field_at behind_closing
+  unfolding field_at after_closing
   field_reads is_nested = record {
     sound = λ cs f rest e.
         option_and_then_some _ (front_at is_nested cs) (f, rest) e (λ a ea ha.
         option_and_then_some _ (spec_at spec a.1) (f, rest) ha (λ s es hs.
-        map_some _ (behind_closing s.1) (f, rest) hs (λ r er hr.
+        map_some _ (after_closing s.1) (f, rest) hs (λ r er hr.
         let i = front_sound is_nested cs a.0 a.1 ea in
         let made : IsField IsSpec is_nested cs (with_spec a.0 s.0) r = record {
           after_expression = i.after_expression;
@@ -274,11 +274,11 @@ module _ {S : Type 0} (spec : List ℕ → Read S) (IsSpec : List ℕ → S → 
         omega arith;
   }
     where
-      closed : (cs r : List ℕ) → behind_closing cs ≡ Some r → cs ≡ right_curly_bracket ∷ r
+      closed : (cs r : List ℕ) → after_closing cs ≡ Some r → cs ≡ right_curly_bracket ∷ r
       closed cs r e = at_brace (cases_Bool (begins_with right_curly_bracket cs))
         where
           at_brace : (begins_with right_curly_bracket cs ≡ true) ⊎ (begins_with right_curly_bracket cs ≡ false)
               → cs ≡ right_curly_bracket ∷ r
-          at_brace (inl b) = let z : Some (drop 1 cs) ≡ Some r = rw (b, behind_closing) at e in let y : drop 1 cs ≡ r = cc in
+          at_brace (inl b) = let z : Some (drop 1 cs) ≡ Some r = rw (b, after_closing) at e in let y : drop 1 cs ≡ r = cc in
               begins_is right_curly_bracket cs b ∙ ap (λ x. right_curly_bracket ∷ x) y
-          at_brace (inr b) = let z : ◌≡◌ {A = Option (List ℕ)} None (Some r) = rw (b, behind_closing) at e in cc
+          at_brace (inr b) = let z : ◌≡◌ {A = Option (List ℕ)} None (Some r) = rw (b, after_closing) at e in cc

@@ -9,13 +9,13 @@ use Rattle.std.proofs.lemmas.Bool.{cases_Bool, eqb-true}
 use Rattle.pyfstring.specs.declared.parts.Conversion.{Conversion}
 use Rattle.pyfstring.specs.Characters.{exclamation_mark, colon, equals_sign, right_curly_bracket, carriage_return}
 use Rattle.pyfstring.specs.Texts.{begins_with}
-use Rattle.pyfstring.specs.Expressions.{behind_expression}
+use Rattle.pyfstring.specs.Expressions.{following_expression}
 use Rattle.pyfstring.specs.Returns.{IsLined, nothing, character, line_end, without_returns, plain_field}
 use Rattle.pyfstring.specs.Parts.{FieldParts}
-use Rattle.pyfstring.specs.Pieces.{Converts, unconverted, by_str, by_repr, by_ascii, is_blank, is_blank_or_tabulation, behind_blanks}
+use Rattle.pyfstring.specs.Pieces.{Converts, unconverted, by_str, by_repr, by_ascii, is_blank, is_blank_or_tabulation, after_blanks}
 use Rattle.pyfstring.specs.Pieces.{conversion_of}
 use Rattle.pyfstring.specs.Cutting.{EndsWith, before, Read, expression_at, kept_at, conversion_by, conversion_at, FrontParts, front_at}
-use Rattle.pyfstring.specs.Cutting.{with_spec, spec_at, behind_closing, field_at}
+use Rattle.pyfstring.specs.Cutting.{with_spec, spec_at, after_closing, field_at}
 use Rattle.pyfstring.proofs.Fronts.{ends_all, before_is, before_whole, ends_drop, ends_through}
 use Rattle.pyfstring.proofs.Scanning.{expression_ends}
 use Rattle.pyfstring.proofs.Reading.{expression_reads, slot_kept, Fronted, front_sound}
@@ -56,7 +56,7 @@ lined_after (c ∷ t) r l = lined_after t r (lined_tail l)
 pub lined_end : (cs r : List ℕ) → EndsWith cs r → IsLined cs → IsLined r
 lined_end cs r (t, e) l = lined_after t r (subst (λ (x : List ℕ). IsLined x) e l)
 
--- behind a character that is first, and no CR
+-- after a character that is first, and no CR
 pub drop_same : (c : ℕ) (cs : List ℕ) → (c == carriage_return) ≡ false → begins_with c cs ≡ true
     → drop 1 (without_returns cs) ≡ without_returns (drop 1 cs)
 drop_same c [] e b = cc
@@ -73,25 +73,25 @@ blank_same (c ∷ cs) = at (cases_Bool (c == carriage_return)) (blank_same cs)
         subst (λ (x : ℕ). list_all is_blank (without_returns (x ∷ cs)) ≡ list_all is_blank (x ∷ cs)) (sym y) more
     at (inr e) more = ap (list_all is_blank) (plain_one c cs e) ∙ ap (λ (b : Bool). is_blank c && b) more
 
-blanks_same : (cs : List ℕ) → behind_blanks (without_returns cs) ≡ without_returns (behind_blanks cs)
+blanks_same : (cs : List ℕ) → after_blanks (without_returns cs) ≡ without_returns (after_blanks cs)
 blanks_same [] = refl
 blanks_same (c ∷ cs) = at (cases_Bool (c == carriage_return)) (cases_Bool (is_blank_or_tabulation c)) (blanks_same cs)
   where
-    goes : (d : ℕ) (ds : List ℕ) → is_blank_or_tabulation d ≡ true → behind_blanks (d ∷ ds) ≡ behind_blanks ds
+    goes : (d : ℕ) (ds : List ℕ) → is_blank_or_tabulation d ≡ true → after_blanks (d ∷ ds) ≡ after_blanks ds
     goes d ds e = rw (e, add_comm, add-one) refl
 
-    stops : (d : ℕ) (ds : List ℕ) → is_blank_or_tabulation d ≡ false → behind_blanks (d ∷ ds) ≡ d ∷ ds
+    stops : (d : ℕ) (ds : List ℕ) → is_blank_or_tabulation d ≡ false → after_blanks (d ∷ ds) ≡ d ∷ ds
     stops d ds e = rw e refl
 
     at : ((c == carriage_return) ≡ true) ⊎ ((c == carriage_return) ≡ false)
-        → (is_blank_or_tabulation c ≡ true) ⊎ (is_blank_or_tabulation c ≡ false) → behind_blanks (without_returns cs) ≡ without_returns
-        (behind_blanks cs) → behind_blanks (without_returns (c ∷ cs)) ≡ without_returns (behind_blanks (c ∷ cs))
+        → (is_blank_or_tabulation c ≡ true) ⊎ (is_blank_or_tabulation c ≡ false) → after_blanks (without_returns cs) ≡ without_returns
+        (after_blanks cs) → after_blanks (without_returns (c ∷ cs)) ≡ without_returns (after_blanks (c ∷ cs))
     at (inl e) _ more = let y : c ≡ 13 = eqb-true c 13 e in
-        subst (λ (x : ℕ). behind_blanks (without_returns (x ∷ cs)) ≡ without_returns (behind_blanks (x ∷ cs))) (sym y) (more
+        subst (λ (x : ℕ). after_blanks (without_returns (x ∷ cs)) ≡ without_returns (after_blanks (x ∷ cs))) (sym y) (more
         ∙ ap without_returns (sym (goes 13 cs refl)))
-    at (inr e) (inl b) more = ap behind_blanks (plain_one c cs e) ∙ goes c (without_returns cs) b ∙ more
+    at (inr e) (inl b) more = ap after_blanks (plain_one c cs e) ∙ goes c (without_returns cs) b ∙ more
         ∙ ap without_returns (sym (goes c cs b))
-    at (inr e) (inr b) more = ap behind_blanks (plain_one c cs e) ∙ stops c (without_returns cs) b ∙ sym (plain_one c cs e)
+    at (inr e) (inr b) more = ap after_blanks (plain_one c cs e) ∙ stops c (without_returns cs) b ∙ sym (plain_one c cs e)
         ∙ ap without_returns (sym (stops c cs b))
 
 -- ---- A reader that gives the same without CRs.
@@ -104,9 +104,9 @@ pub record Commutes {X : Type 0} (f : List ℕ → Read X) (plain : X → X) : T
   pub lined : (cs : List ℕ) (x : X) (r : List ℕ) → IsLined cs → f cs ≡ Some (x, r) → IsLined r
 
 expression_commutes : (cs : List ℕ) → IsLined cs → expression_at (without_returns cs) ≡ both without_returns (expression_at cs)
-expression_commutes cs i = at (behind_expression cs) refl
+expression_commutes cs i = at (following_expression cs) refl
   where
-    at : (o : Option (List ℕ)) → behind_expression cs ≡ o → expression_at (without_returns cs) ≡ both without_returns (expression_at cs)
+    at : (o : Option (List ℕ)) → following_expression cs ≡ o → expression_at (without_returns cs) ≡ both without_returns (expression_at cs)
     at None e = expression_fails (without_returns cs) (expression_same cs i ∙ ap (option_map without_returns) e)
         ∙ ap (both without_returns) (sym (expression_fails cs e))
     at (Some r) e = blank (cases_Bool (list_all is_blank (before cs r)))
@@ -135,14 +135,14 @@ kept_commutes n cs here w i = at (cases_Bool (begins_with equals_sign here)) (ca
         kept_fails n (without_returns cs) (without_returns here) (begins_same (λ d. d == equals_sign) refl i ∙ b) m
         ∙ ap (both (option_map without_returns)) (sym (kept_fails n cs here b m))
     at (inl b) (inr m) =
-        let left : behind_blanks (drop 1 (without_returns here)) ≡ without_returns (behind_blanks (drop 1 here)) =
-        ap behind_blanks (drop_same equals_sign here refl b) ∙ blanks_same (drop 1 here) in
-        let ends : EndsWith cs (behind_blanks (drop 1 here)) =
+        let left : after_blanks (drop 1 (without_returns here)) ≡ without_returns (after_blanks (drop 1 here)) =
+        ap after_blanks (drop_same equals_sign here refl b) ∙ blanks_same (drop 1 here) in
+        let ends : EndsWith cs (after_blanks (drop 1 here)) =
         ends_through cs here _ w (ends_through here (drop 1 here) _ (ends_drop 1 here) (ends_drop _ (drop 1 here))) in
         kept_given n (without_returns cs) (without_returns here) (begins_same (λ d. d == equals_sign) refl i ∙ b) m
         ∙ ap (λ (x : List ℕ). Some (Some (before (without_returns cs) x), x)) left
-        ∙ ap (λ (x : List ℕ). Some (Some x, without_returns (behind_blanks (drop 1 here))))
-        (before_same cs (behind_blanks (drop 1 here)) ends)
+        ∙ ap (λ (x : List ℕ). Some (Some x, without_returns (after_blanks (drop 1 here))))
+        (before_same cs (after_blanks (drop 1 here)) ends)
         ∙ ap (both (option_map without_returns)) (sym (kept_given n cs here b m))
     at (inr b) _ =
         kept_absent n (without_returns cs) (without_returns here) (begins_same (λ d. d == equals_sign) refl i ∙ b)
@@ -205,7 +205,7 @@ conversion_ends_with cs k r by_ascii = (33 ∷ 97 ∷ [], refl)
 pub front_commutes : (n : Bool) → Commutes (front_at n) plain_front
 front_commutes n = record {
   same = λ cs i. by_expression cs i (expression_at cs) refl;
-  lined = λ cs f r i e. behind cs f r i (front_sound n cs f r e);
+  lined = λ cs f r i e. following cs f r i (front_sound n cs f r e);
 }
   where
     by_conversion : (cs : List ℕ) → IsLined cs → (t a : List ℕ) (k : Option (List ℕ)) (b : List ℕ) → expression_at cs ≡ Some (t, a)
@@ -237,25 +237,25 @@ front_commutes n = record {
         ∙ ap (both plain_front) (sym (front_no_expression n cs e))
     by_expression cs i (Some x) e = by_kept cs i x.0 x.1 e (x.0, (expression_reads.sound cs x.0 x.1 e).whole) (kept_at n cs x.1) refl
 
-    behind : (cs : List ℕ) (f : FrontParts) (r : List ℕ) → IsLined cs → Fronted n cs f r → IsLined r
-    behind cs f r i h =
+    following : (cs : List ℕ) (f : FrontParts) (r : List ℕ) → IsLined cs → Fronted n cs f r → IsLined r
+    following cs f r i h =
         let a = lined_end cs h.after_expression (f.text, h.expression.whole) i in
         let b = lined_end h.after_expression h.after_kept (slot_kept n cs h.after_expression f.kept h.after_kept h.keeps).1 a in
         lined_end h.after_kept r (conversion_ends_with h.after_kept f.given r h.converts) b
 
 -- ---- A field.
 
-closing_commutes : (cs : List ℕ) → IsLined cs → behind_closing (without_returns cs) ≡ option_map without_returns (behind_closing cs)
+closing_commutes : (cs : List ℕ) → IsLined cs → after_closing (without_returns cs) ≡ option_map without_returns (after_closing cs)
 closing_commutes cs i = at (cases_Bool (begins_with right_curly_bracket cs))
   where
     at : (begins_with right_curly_bracket cs ≡ true) ⊎ (begins_with right_curly_bracket cs ≡ false)
-        → behind_closing (without_returns cs) ≡ option_map without_returns (behind_closing cs)
+        → after_closing (without_returns cs) ≡ option_map without_returns (after_closing cs)
     at (inl b) = closing_some (without_returns cs) (begins_same (λ d. d == right_curly_bracket) refl i ∙ b)
         ∙ ap (λ (x : List ℕ). Some x) (drop_same right_curly_bracket cs refl b) ∙ ap (option_map without_returns) (sym (closing_some cs b))
     at (inr b) = closing_none (without_returns cs) (begins_same (λ d. d == right_curly_bracket) refl i ∙ b)
         ∙ ap (option_map without_returns) (sym (closing_none cs b))
 
-closing_ends : (cs r : List ℕ) → behind_closing cs ≡ Some r → EndsWith cs r
+closing_ends : (cs r : List ℕ) → after_closing cs ≡ Some r → EndsWith cs r
 closing_ends cs r e = at (cases_Bool (begins_with right_curly_bracket cs))
   where
     at : (begins_with right_curly_bracket cs ≡ true) ⊎ (begins_with right_curly_bracket cs ≡ false) → EndsWith cs r
@@ -288,16 +288,16 @@ module _ {S : Type 0} (spec : List ℕ → Read S) (plain : S → S) (commutes :
       at cs i (inr b) = spec_absent spec (without_returns cs) (begins_same (λ d. d == colon) refl i ∙ b)
           ∙ ap (both (option_map plain)) (sym (spec_absent spec cs b))
 
-      behind : (cs : List ℕ) (s : Option S) (r : List ℕ) → IsLined cs → begins_with colon cs ≡ true → spec_at spec cs ≡ Some (s, r)
+      following : (cs : List ℕ) (s : Option S) (r : List ℕ) → IsLined cs → begins_with colon cs ≡ true → spec_at spec cs ≡ Some (s, r)
           → (o : Read S) → spec (drop 1 cs) ≡ o → IsLined r
-      behind cs s r i b e None f = let z : ◌≡◌ {A = Read (Option S)} None (Some (s, r)) = sym (spec_fails spec cs b f) ∙ e in cc
-      behind cs s r i b e (Some x) f =
+      following cs s r i b e None f = let z : ◌≡◌ {A = Read (Option S)} None (Some (s, r)) = sym (spec_fails spec cs b f) ∙ e in cc
+      following cs s r i b e (Some x) f =
           let z = some_pair_parts _ _ _ _ (sym (spec_given spec cs x.0 x.1 b f) ∙ e) in
           subst (λ (y : List ℕ). IsLined y) z.1 (commutes.lined (drop 1 cs) x.0 x.1 (lined_end cs (drop 1 cs) (ends_drop 1 cs) i) f)
 
       left : (cs : List ℕ) (s : Option S) (r : List ℕ) → IsLined cs → spec_at spec cs ≡ Some (s, r)
           → (begins_with colon cs ≡ true) ⊎ (begins_with colon cs ≡ false) → IsLined r
-      left cs s r i e (inl b) = behind cs s r i b e (spec (drop 1 cs)) refl
+      left cs s r i e (inl b) = following cs s r i b e (spec (drop 1 cs)) refl
       left cs s r i e (inr b) = let z = some_pair_parts _ _ _ _ (sym (spec_absent spec cs b) ∙ e) in subst (λ (y : List ℕ). IsLined y) z.1 i
 
   plain_with : (f : FrontParts) (s : Option S) → with_spec (plain_front f) (option_map plain s) ≡ plain_field plain (with_spec f s)
@@ -324,7 +324,7 @@ module _ {S : Type 0} (spec : List ℕ → Read S) (plain : S → S) (commutes :
   }
     where
       by_closing : (cs : List ℕ) → IsLined cs → (f : FrontParts) (a : List ℕ) (s : Option S) (b : List ℕ) → front_at n cs ≡ Some (f, a)
-          → spec_at spec a ≡ Some (s, b) → IsLined a → IsLined b → (o : Option (List ℕ)) → behind_closing b ≡ o
+          → spec_at spec a ≡ Some (s, b) → IsLined a → IsLined b → (o : Option (List ℕ)) → after_closing b ≡ o
           → field_at spec n (without_returns cs) ≡ both (plain_field plain) (field_at spec n cs)
       by_closing cs i f a s b e g j k None h =
           field_no_closing spec n (without_returns cs) (plain_front f) (without_returns a) (option_map plain s) (without_returns b)
@@ -344,7 +344,7 @@ module _ {S : Type 0} (spec : List ℕ → Read S) (plain : S → S) (commutes :
           field_no_spec spec n (without_returns cs) (plain_front f) (without_returns a) ((front_commutes n).same cs i
           ∙ ap (both plain_front) e) (spec_commutes.same a j ∙ ap (both (option_map plain)) g)
           ∙ ap (both (plain_field plain)) (sym (field_no_spec spec n cs f a e g))
-      by_spec cs i f a e j (Some x) g = by_closing cs i f a x.0 x.1 e g j (spec_commutes.lined a x.0 x.1 j g) (behind_closing x.1) refl
+      by_spec cs i f a e j (Some x) g = by_closing cs i f a x.0 x.1 e g j (spec_commutes.lined a x.0 x.1 j g) (after_closing x.1) refl
 
       by_front : (cs : List ℕ) → IsLined cs → (o : Read FrontParts) → front_at n cs ≡ o
           → field_at spec n (without_returns cs) ≡ both (plain_field plain) (field_at spec n cs)
@@ -352,23 +352,23 @@ module _ {S : Type 0} (spec : List ℕ → Read S) (plain : S → S) (commutes :
           ∙ ap (both (plain_field plain)) (sym (field_no_front spec n cs e))
       by_front cs i (Some x) e = by_spec cs i x.0 x.1 e ((front_commutes n).lined cs x.0 x.1 i e) (spec_at spec x.1) refl
 
-      behind_spec : (cs : List ℕ) (f : FieldParts S) (r : List ℕ) → field_at spec n cs ≡ Some (f, r) → (h : FrontParts) (a : List ℕ)
+      after_spec : (cs : List ℕ) (f : FieldParts S) (r : List ℕ) → field_at spec n cs ≡ Some (f, r) → (h : FrontParts) (a : List ℕ)
           → front_at n cs ≡ Some (h, a) → (s : Option S) (b : List ℕ) → spec_at spec a ≡ Some (s, b) → IsLined b → (o : Option (List ℕ))
-          → behind_closing b ≡ o → IsLined r
-      behind_spec cs f r e h a x s b y k None z = let w : ◌≡◌ {A = Read (FieldParts S)} None (Some (f, r)) =
+          → after_closing b ≡ o → IsLined r
+      after_spec cs f r e h a x s b y k None z = let w : ◌≡◌ {A = Read (FieldParts S)} None (Some (f, r)) =
           sym (field_no_closing spec n cs h a s b x y z) ∙ e in cc
-      behind_spec cs f r e h a x s b y k (Some u) z =
+      after_spec cs f r e h a x s b y k (Some u) z =
           let w = some_pair_parts _ _ _ _ (sym (field_given spec n cs h a s b u x y z) ∙ e) in
           subst (λ (v : List ℕ). IsLined v) w.1 (lined_end b u (closing_ends b u z) k)
 
-      behind_front : (cs : List ℕ) (f : FieldParts S) (r : List ℕ) → field_at spec n cs ≡ Some (f, r) → (h : FrontParts) (a : List ℕ)
+      after_front : (cs : List ℕ) (f : FieldParts S) (r : List ℕ) → field_at spec n cs ≡ Some (f, r) → (h : FrontParts) (a : List ℕ)
           → front_at n cs ≡ Some (h, a) → IsLined a → (o : Read (Option S)) → spec_at spec a ≡ o → IsLined r
-      behind_front cs f r e h a x j None y = let w : ◌≡◌ {A = Read (FieldParts S)} None (Some (f, r)) =
+      after_front cs f r e h a x j None y = let w : ◌≡◌ {A = Read (FieldParts S)} None (Some (f, r)) =
           sym (field_no_spec spec n cs h a x y) ∙ e in cc
-      behind_front cs f r e h a x j (Some v) y = behind_spec cs f r e h a x v.0 v.1 y (spec_commutes.lined a v.0 v.1 j y)
-          (behind_closing v.1) refl
+      after_front cs f r e h a x j (Some v) y = after_spec cs f r e h a x v.0 v.1 y (spec_commutes.lined a v.0 v.1 j y)
+          (after_closing v.1) refl
 
       left : (cs : List ℕ) (f : FieldParts S) (r : List ℕ) → IsLined cs → field_at spec n cs ≡ Some (f, r) → (o : Read FrontParts)
           → front_at n cs ≡ o → IsLined r
       left cs f r i e None x = let w : ◌≡◌ {A = Read (FieldParts S)} None (Some (f, r)) = sym (field_no_front spec n cs x) ∙ e in cc
-      left cs f r i e (Some v) x = behind_front cs f r e v.0 v.1 x ((front_commutes n).lined cs v.0 v.1 i x) (spec_at spec v.1) refl
+      left cs f r i e (Some v) x = after_front cs f r e v.0 v.1 x ((front_commutes n).lined cs v.0 v.1 i x) (spec_at spec v.1) refl

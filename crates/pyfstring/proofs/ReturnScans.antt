@@ -10,7 +10,7 @@ use Rattle.pyfstring.specs.declared.expressions.Step.TheVariants.{Ends, Fails, L
 use Rattle.pyfstring.specs.Characters.{backslash, carriage_return, equals_sign}
 use Rattle.pyfstring.specs.Texts.{begins_with}
 use Rattle.pyfstring.specs.Expressions.{Inside, expression, shortstring, longstring, step, scan, begins_three, begins_comparison}
-use Rattle.pyfstring.specs.Expressions.{bracket_step, is_quote, is_refused, is_end, opened_by, closed_by, is_empty, behind_expression}
+use Rattle.pyfstring.specs.Expressions.{bracket_step, is_quote, is_refused, is_end, opened_by, closed_by, is_empty, following_expression}
 use Rattle.pyfstring.specs.Returns.{IsLined, nothing, character, line_end, without_returns}
 use Rattle.pyfstring.proofs.Scanning.{scan_skip}
 use Rattle.pyfstring.proofs.Stepping.{literal_begins, literal_long, literal_short, scan_fails, scan_stops, scan_compares, scan_opens}
@@ -70,9 +70,9 @@ module _ (q : ℕ) (n : IsNoEnd q) where
   and_off true d = refl
   and_off false d = refl
 
-  same_three_behind : (a : ℕ) (cs : List ℕ) → IsLined cs → begins_three q (a ∷ without_returns cs) ≡ begins_three q (a ∷ cs)
-  same_three_behind a [] i = refl
-  same_three_behind a (d ∷ cs) i = at (cases_Bool (d == q))
+  same_three_after : (a : ℕ) (cs : List ℕ) → IsLined cs → begins_three q (a ∷ without_returns cs) ≡ begins_three q (a ∷ cs)
+  same_three_after a [] i = refl
+  same_three_after a (d ∷ cs) i = at (cases_Bool (d == q))
     where
       at : ((d == q) ≡ true) ⊎ ((d == q) ≡ false) → begins_three q (a ∷ without_returns (d ∷ cs)) ≡ begins_three q (a ∷ d ∷ cs)
       at (inl e) =
@@ -85,7 +85,7 @@ module _ (q : ℕ) (n : IsNoEnd q) where
           ∙ and_off (a == q) (begins_with q (drop 1 (without_returns (d ∷ cs))))
           ∙ sym (ap (λ (b : Bool). (a == q) && b && begins_with q cs) e ∙ and_off (a == q) (begins_with q cs))
 
-  -- behind three quotes
+  -- after three quotes
   record Dropped (a : ℕ) (cs : List ℕ) : Type 0 where
     pub same : drop 2 (without_returns cs) ≡ without_returns (drop 2 cs)
     pub lined : IsLined (drop 2 cs)
@@ -126,7 +126,7 @@ return_goes (shortstring q) o bs cs = let z = (quote_no_end q o).no_return in rw
 return_goes (longstring q) o bs cs = let z = (quote_no_end q o).no_return in let y : begins_three q (13 ∷ cs) ≡ false =
     rw z refl in rw (y, scan) refl
 
--- behind one more character, which may be a CR or an LF
+-- after one more character, which may be a CR or an LF
 after_one : (k : ℕ) → Below k → (bs : List Bracket) (cs : List ℕ) → length cs < suc k → IsLined cs
     → scan expression bs 0 (drop 1 (without_returns cs)) ≡ option_map without_returns (scan expression bs 0 (drop 1 cs))
 unfolding Below
@@ -153,13 +153,13 @@ at_expression k ih bs a cs n l i Literal e = by_three (cases_Bool (begins_three 
     by_three (inl t) =
         let w = quote_no_end a (literal_begins bs (a ∷ cs) e) in
         let d = drop_three a w a cs i t in
-        literal_long (a ∷ without_returns cs) a refl (literal_begins bs (a ∷ cs) e) (same_three_behind a w a cs i ∙ t) bs
+        literal_long (a ∷ without_returns cs) a refl (literal_begins bs (a ∷ cs) e) (same_three_after a w a cs i ∙ t) bs
         ∙ ap (scan (longstring a) bs 0) d.same
         ∙ ih (longstring a) (literal_begins bs (a ∷ cs) e) bs (drop 2 cs) (omega (arith, length-drop 2 cs)) d.lined
         ∙ sym (ap (option_map without_returns) (literal_long (a ∷ cs) a refl (literal_begins bs (a ∷ cs) e) t bs))
     by_three (inr t) =
         let w = quote_no_end a (literal_begins bs (a ∷ cs) e) in
-        literal_short (a ∷ without_returns cs) a refl (literal_begins bs (a ∷ cs) e) (same_three_behind a w a cs i ∙ t) bs
+        literal_short (a ∷ without_returns cs) a refl (literal_begins bs (a ∷ cs) e) (same_three_after a w a cs i ∙ t) bs
         ∙ ih (shortstring a) (literal_begins bs (a ∷ cs) e) bs cs l i
         ∙ sym (ap (option_map without_returns) (literal_short (a ∷ cs) a refl (literal_begins bs (a ∷ cs) e) t bs))
 at_expression k ih bs a cs n l i Compares e =
@@ -211,7 +211,7 @@ at_long k ih q o bs a cs l i = by_three (cases_Bool (begins_three q (a ∷ cs)))
         ∙ ih expression tt bs (drop 2 cs) (omega (arith, length-drop 2 cs)) d.lined
         ∙ sym (ap (option_map without_returns) (scan_skip expression bs 2 cs)) in
         ap (λ (b : Bool). short_by (a == backslash) b (scan expression bs 2 (without_returns cs))
-        (scan (longstring q) bs 0 (without_returns cs))) (same_three_behind q w a cs i)
+        (scan (longstring q) bs 0 (without_returns cs))) (same_three_after q w a cs i)
         ∙ map_short (a == backslash) (begins_three q (a ∷ cs)) (scan expression bs 2 cs) (scan (longstring q) bs 0 cs)
         (scan expression bs 2 (without_returns cs)) (scan (longstring q) bs 0 (without_returns cs)) closed
         (ih (longstring q) o bs cs l i)
@@ -221,7 +221,7 @@ at_long k ih q o bs a cs l i = by_three (cases_Bool (begins_three q (a ∷ cs)))
         ap (λ (b : Bool). short_by (a == backslash) b (scan expression bs 2 cs) (scan (longstring q) bs 0 cs)) t
         ∙ unclosed (a == backslash) (scan expression bs 2 cs) (scan (longstring q) bs 0 cs) in
         ap (λ (b : Bool). short_by (a == backslash) b (scan expression bs 2 (without_returns cs))
-        (scan (longstring q) bs 0 (without_returns cs))) (same_three_behind q w a cs i ∙ t)
+        (scan (longstring q) bs 0 (without_returns cs))) (same_three_after q w a cs i ∙ t)
         ∙ unclosed (a == backslash) (scan expression bs 2 (without_returns cs)) (scan (longstring q) bs 0 (without_returns cs))
         ∙ map_short (a == backslash) false None (scan (longstring q) bs 0 cs) None (scan (longstring q) bs 0 (without_returns cs)) refl
         (ih (longstring q) o bs cs l i)
@@ -241,7 +241,7 @@ below_all (suc k) (shortstring q) o bs (a ∷ cs) l (character e j) = ap (scan (
 below_all (suc k) (longstring q) o bs (a ∷ cs) l (character e j) = ap (scan (longstring q) bs 0) (plain_one a cs e)
     ∙ at_long k (below_all k) q o bs a cs (omega arith) j
 
-pub expression_same : (cs : List ℕ) → IsLined cs → behind_expression (without_returns cs) ≡ option_map
-    without_returns (behind_expression cs)
-unfolding Below behind_expression
+pub expression_same : (cs : List ℕ) → IsLined cs → following_expression (without_returns cs) ≡ option_map
+    without_returns (following_expression cs)
+unfolding Below following_expression
 expression_same cs j = below_all (suc (length cs)) expression tt [] cs (omega arith) j

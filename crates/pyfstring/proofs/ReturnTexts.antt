@@ -7,7 +7,7 @@ use Rattle.std.specs.List.{prefix_len}
 use Rattle.std.proofs.lemmas.Bool.{cases_Bool, eqb-true}
 use Rattle.pyfstring.specs.Characters.{backslash, capital_n, left_curly_bracket, right_curly_bracket, line_feed, carriage_return}
 use Rattle.pyfstring.specs.Texts.{begins, begins_with, begins_escape, begins_pair, escape_len, is_literal_char, is_no_closing, unit_len}
-use Rattle.pyfstring.specs.Texts.{behind_text}
+use Rattle.pyfstring.specs.Texts.{after_text}
 use Rattle.pyfstring.specs.Returns.{IsLined, nothing, character, line_end, without_returns}
 use Rattle.pyfstring.proofs.Scanning.{text_stops, text_goes, unit_escape, unit_pair, unit_plain, unit_none}
 
@@ -24,7 +24,7 @@ begins_same f e nothing = refl
 begins_same f e (character {c = c} {cs = cs} n l) = ap (begins f) (plain_one c cs n)
 begins_same f e (line_end l) = sym e
 
--- ---- Behind a closing brace.
+-- ---- After a closing brace.
 
 pub closing_same : (cs : List ℕ) → drop (prefix_len is_no_closing (without_returns cs) + 1) (without_returns cs) ≡ without_returns
     (drop (prefix_len is_no_closing cs + 1) cs)
@@ -98,17 +98,17 @@ module _ (r p : Bool) where
 
   -- the claim, of texts of less than k characters
   Below : ℕ → Type 0
-  Below k = (cs : List ℕ) → length cs < k → IsLined cs → behind_text r p (without_returns cs) ≡ without_returns (behind_text r p cs)
+  Below k = (cs : List ℕ) → length cs < k → IsLined cs → after_text r p (without_returns cs) ≡ without_returns (after_text r p cs)
 
-  feed_goes : (cs : List ℕ) → behind_text r p (10 ∷ cs) ≡ behind_text r p cs
+  feed_goes : (cs : List ℕ) → after_text r p (10 ∷ cs) ≡ after_text r p cs
   feed_goes cs = text_goes r p 0 (10 ∷ cs) (feed_unit cs)
 
-  -- behind one more character, which may be a CR or an LF
-  after_one : (k : ℕ) → Below k → (cs : List ℕ) → length cs < suc k → IsLined cs → behind_text r p (drop 1 (without_returns cs)) ≡
-      without_returns (behind_text r p (drop 1 cs))
-  unfolding Below behind_text
+  -- after one more character, which may be a CR or an LF
+  after_one : (k : ℕ) → Below k → (cs : List ℕ) → length cs < suc k → IsLined cs → after_text r p (drop 1 (without_returns cs)) ≡
+      without_returns (after_text r p (drop 1 cs))
+  unfolding Below after_text
   after_one k ih [] l nothing = refl
-  after_one k ih (c ∷ cs) l (character e i) = ap (λ (x : List ℕ). behind_text r p (drop 1 x)) (plain_one c cs e) ∙ ih cs (omega arith) i
+  after_one k ih (c ∷ cs) l (character e i) = ap (λ (x : List ℕ). after_text r p (drop 1 x)) (plain_one c cs e) ∙ ih cs (omega arith) i
   after_one k ih (_ ∷ _ ∷ cs) l (line_end i) = ih cs (omega arith) i ∙ ap without_returns (sym (feed_goes cs))
 
   escape_same : (cs : List ℕ) → IsLined cs → (a : ℕ) → (not r && begins_escape (a ∷ without_returns cs)) ≡ (not r && begins_escape (a ∷ cs))
@@ -138,17 +138,17 @@ module _ (r p : Bool) where
       let z : escape_len (a ∷ capital_n ∷ left_curly_bracket ∷ x) ≡ suc (suc (suc (prefix_len is_no_closing x + 1))) = omega arith in
       ap (λ (n : ℕ). drop n (a ∷ capital_n ∷ left_curly_bracket ∷ x)) z
 
-  -- behind an escape
+  -- after an escape
   after_escape : (k : ℕ) → Below k → (a : ℕ) (cs : List ℕ) → length cs < k → IsLined cs
-      → behind_text r p (drop (escape_len (a ∷ without_returns cs)) (a ∷ without_returns cs)) ≡ without_returns
-      (behind_text r p (drop (escape_len (a ∷ cs)) (a ∷ cs)))
+      → after_text r p (drop (escape_len (a ∷ without_returns cs)) (a ∷ without_returns cs)) ≡ without_returns
+      (after_text r p (drop (escape_len (a ∷ cs)) (a ∷ cs)))
   unfolding Below
   after_escape k ih a cs l i = at_n cs l i (cases_Bool (begins_with capital_n cs))
     where
       at_brace : (ds : List ℕ) → length ds < k → IsLined ds
           → (begins_with left_curly_bracket ds ≡ true) ⊎ (begins_with left_curly_bracket ds ≡ false)
-          → behind_text r p (drop (escape_len (a ∷ capital_n ∷ without_returns ds)) (a ∷ capital_n ∷ without_returns ds)) ≡ without_returns
-          (behind_text r p (drop (escape_len (a ∷ capital_n ∷ ds)) (a ∷ capital_n ∷ ds)))
+          → after_text r p (drop (escape_len (a ∷ capital_n ∷ without_returns ds)) (a ∷ capital_n ∷ without_returns ds)) ≡ without_returns
+          (after_text r p (drop (escape_len (a ∷ capital_n ∷ ds)) (a ∷ capital_n ∷ ds)))
       at_brace [] m j (inl b) = cc
       at_brace (d ∷ ds) m j (inl b) =
           let y : d ≡ 123 = eqb-true d 123 b in
@@ -162,41 +162,41 @@ module _ (r p : Bool) where
           subst (λ (x : ℕ). drop (escape_len (a ∷ capital_n ∷ x ∷ without_returns ds)) (a ∷ capital_n ∷ x ∷ without_returns ds) ≡ drop
           (prefix_len is_no_closing (without_returns ds) + 1) (without_returns ds)) (sym y) (escape_named a (without_returns ds)) in
           let short : length (drop (prefix_len is_no_closing ds + 1) ds) < k = omega (arith, closing_shorter ds) in
-          ap (λ (x : List ℕ). behind_text r p (drop (escape_len (a ∷ capital_n ∷ x)) (a ∷ capital_n ∷ x))) (plain_one d ds g)
-          ∙ ap (behind_text r p) (plain ∙ closing_same ds)
+          ap (λ (x : List ℕ). after_text r p (drop (escape_len (a ∷ capital_n ∷ x)) (a ∷ capital_n ∷ x))) (plain_one d ds g)
+          ∙ ap (after_text r p) (plain ∙ closing_same ds)
           ∙ ih (drop (prefix_len is_no_closing ds + 1) ds) short (closing_lined s)
-          ∙ ap (λ (x : List ℕ). without_returns (behind_text r p x)) (sym body)
+          ∙ ap (λ (x : List ℕ). without_returns (after_text r p x)) (sym body)
       at_brace ds m j (inr b) =
           let f : begins_with left_curly_bracket (without_returns ds) ≡ false = begins_same (λ c. c == left_curly_bracket) refl j ∙ b in
-          ap (λ (n : ℕ). behind_text r p (drop n (a ∷ capital_n ∷ without_returns ds))) (escape_three a (without_returns ds) f)
+          ap (λ (n : ℕ). after_text r p (drop n (a ∷ capital_n ∷ without_returns ds))) (escape_three a (without_returns ds) f)
           ∙ after_one k ih ds (omega arith) j
-          ∙ ap (λ (n : ℕ). without_returns (behind_text r p (drop n (a ∷ capital_n ∷ ds)))) (sym (escape_three a ds b))
+          ∙ ap (λ (n : ℕ). without_returns (after_text r p (drop n (a ∷ capital_n ∷ ds)))) (sym (escape_three a ds b))
 
       at_n : (ds : List ℕ) → length ds < k → IsLined ds → (begins_with capital_n ds ≡ true) ⊎ (begins_with capital_n ds ≡ false)
-          → behind_text r p (drop (escape_len (a ∷ without_returns ds)) (a ∷ without_returns ds)) ≡ without_returns
-          (behind_text r p (drop (escape_len (a ∷ ds)) (a ∷ ds)))
+          → after_text r p (drop (escape_len (a ∷ without_returns ds)) (a ∷ without_returns ds)) ≡ without_returns
+          (after_text r p (drop (escape_len (a ∷ ds)) (a ∷ ds)))
       at_n [] m j (inl b) = cc
       at_n (d ∷ ds) m j (inl b) =
           let y : d ≡ 78 = eqb-true d 78 b in
           let g : (d == carriage_return) ≡ false = rw y refl in
           let short : length ds < k = omega arith in
-          ap (λ (x : List ℕ). behind_text r p (drop (escape_len (a ∷ x)) (a ∷ x))) (plain_one d ds g)
-          ∙ subst (λ (x : ℕ). behind_text r p (drop (escape_len (a ∷ x ∷ without_returns ds)) (a ∷ x ∷ without_returns ds)) ≡
-          without_returns (behind_text r p (drop (escape_len (a ∷ x ∷ ds)) (a ∷ x ∷ ds)))) (sym y)
+          ap (λ (x : List ℕ). after_text r p (drop (escape_len (a ∷ x)) (a ∷ x))) (plain_one d ds g)
+          ∙ subst (λ (x : ℕ). after_text r p (drop (escape_len (a ∷ x ∷ without_returns ds)) (a ∷ x ∷ without_returns ds)) ≡
+          without_returns (after_text r p (drop (escape_len (a ∷ x ∷ ds)) (a ∷ x ∷ ds)))) (sym y)
           (at_brace ds short (lined_rest g j) (cases_Bool (begins_with left_curly_bracket ds)))
       at_n ds m j (inr b) =
           let f : begins_with capital_n (without_returns ds) ≡ false = begins_same (λ c. c == capital_n) refl j ∙ b in
-          ap (λ (n : ℕ). behind_text r p (drop n (a ∷ without_returns ds))) (escape_two a (without_returns ds) f)
+          ap (λ (n : ℕ). after_text r p (drop n (a ∷ without_returns ds))) (escape_two a (without_returns ds) f)
           ∙ after_one k ih ds (omega arith) j
-          ∙ ap (λ (n : ℕ). without_returns (behind_text r p (drop n (a ∷ ds)))) (sym (escape_two a ds b))
+          ∙ ap (λ (n : ℕ). without_returns (after_text r p (drop n (a ∷ ds)))) (sym (escape_two a ds b))
 
   -- by the unit at the front
-  goes_by : (n : ℕ) (cs : List ℕ) → unit_len r p cs ≡ n → behind_text r p cs ≡ behind_text r p (drop n cs)
+  goes_by : (n : ℕ) (cs : List ℕ) → unit_len r p cs ≡ n → after_text r p cs ≡ after_text r p (drop n cs)
   goes_by zero cs e = refl
   goes_by (suc n) cs e = text_goes r p n cs e
 
   below_all : (k : ℕ) → Below k
-  unfolding Below behind_text
+  unfolding Below after_text
   below_all zero cs l i = absurd (omega arith)
   below_all (suc k) [] l nothing = refl
   below_all (suc k) (_ ∷ _ ∷ cs) l (line_end i) =
@@ -204,14 +204,14 @@ module _ (r p : Bool) where
       ∙ below_all k cs (omega arith) i
       ∙ ap without_returns (sym (goes_by 1 (13 ∷ 10 ∷ cs) (return_unit (10 ∷ cs)) ∙ feed_goes cs))
   below_all (suc k) (a ∷ cs) l (character e i) =
-      ap (behind_text r p) (plain_one a cs e)
+      ap (after_text r p) (plain_one a cs e)
       ∙ by_unit (below_all k) (cases_Bool (not r && begins_escape (a ∷ cs))) (cases_Bool (p && begins_pair (a ∷ cs)))
       (cases_Bool (is_literal_char a))
     where
       by_unit : Below k → ((not r && begins_escape (a ∷ cs)) ≡ true) ⊎ ((not r && begins_escape (a ∷ cs)) ≡ false)
           → ((p && begins_pair (a ∷ cs)) ≡ true) ⊎ ((p && begins_pair (a ∷ cs)) ≡ false)
-          → (is_literal_char a ≡ true) ⊎ (is_literal_char a ≡ false) → behind_text r p (a ∷ without_returns cs) ≡ without_returns
-          (behind_text r p (a ∷ cs))
+          → (is_literal_char a ≡ true) ⊎ (is_literal_char a ≡ false) → after_text r p (a ∷ without_returns cs) ≡ without_returns
+          (after_text r p (a ∷ cs))
       by_unit ih (inl x) _ _ =
           goes_by _ (a ∷ without_returns cs) (unit_escape r p (a ∷ without_returns cs) (escape_same cs i a ∙ x))
           ∙ after_escape k ih a cs (omega arith) i
@@ -229,6 +229,6 @@ module _ (r p : Bool) where
           let w = unit_none r p (a ∷ without_returns cs) (escape_same cs i a ∙ x) (pair_same cs i a ∙ y) n in
           text_stops r p (a ∷ without_returns cs) w ∙ sym (plain_one a cs e) ∙ ap without_returns (sym (text_stops r p (a ∷ cs) z))
 
-  pub text_same : (cs : List ℕ) → IsLined cs → behind_text r p (without_returns cs) ≡ without_returns (behind_text r p cs)
+  pub text_same : (cs : List ℕ) → IsLined cs → after_text r p (without_returns cs) ≡ without_returns (after_text r p cs)
   unfolding Below
   text_same cs i = below_all (suc (length cs)) cs (omega arith) i

@@ -9,8 +9,8 @@ use Rattle.pyfstring.specs.declared.expressions.Bracket.{Bracket}
 use Rattle.pyfstring.specs.declared.expressions.Step.TheVariants.{Ends, Fails, Literal, Compares, Opens, Closes, Passes}
 use Rattle.pyfstring.specs.Characters.{backslash, capital_n, left_curly_bracket}
 use Rattle.pyfstring.specs.Texts.{begins, begins_with, begins_escape, begins_pair, escape_len, is_literal_char, is_no_closing, unit_len}
-use Rattle.pyfstring.specs.Texts.{units_after, behind_text}
-use Rattle.pyfstring.specs.Expressions.{Inside, expression, shortstring, longstring, step, scan, begins_three, behind_expression}
+use Rattle.pyfstring.specs.Texts.{units_after, after_text}
+use Rattle.pyfstring.specs.Expressions.{Inside, expression, shortstring, longstring, step, scan, begins_three, following_expression}
 use Rattle.pyfstring.specs.Cutting.{EndsWith}
 use Rattle.pyfstring.proofs.Fronts.{ends_all, ends_one}
 
@@ -26,8 +26,8 @@ units_end is_raw has_pairs zero (c ∷ cs) =
       | suc n ↦ ends_one c cs (units_after is_raw has_pairs n cs) (units_end is_raw has_pairs n cs)
     ]
 
-pub text_ends : (is_raw has_pairs : Bool) (cs : List ℕ) → EndsWith cs (behind_text is_raw has_pairs cs)
-unfolding behind_text
+pub text_ends : (is_raw has_pairs : Bool) (cs : List ℕ) → EndsWith cs (after_text is_raw has_pairs cs)
+unfolding after_text
 text_ends is_raw has_pairs cs = units_end is_raw has_pairs 0 cs
 
 units_skip : (is_raw has_pairs : Bool) (n : ℕ) (cs : List ℕ) → units_after is_raw has_pairs n cs ≡ units_after
@@ -36,15 +36,15 @@ units_skip is_raw has_pairs zero cs = refl
 units_skip is_raw has_pairs (suc n) [] = refl
 units_skip is_raw has_pairs (suc n) (c ∷ cs) = units_skip is_raw has_pairs n cs
 
-pub text_stops : (is_raw has_pairs : Bool) (cs : List ℕ) → unit_len is_raw has_pairs cs ≡ 0 → behind_text is_raw has_pairs cs ≡ cs
-unfolding behind_text
+pub text_stops : (is_raw has_pairs : Bool) (cs : List ℕ) → unit_len is_raw has_pairs cs ≡ 0 → after_text is_raw has_pairs cs ≡ cs
+unfolding after_text
 text_stops is_raw has_pairs [] e = refl
 text_stops is_raw has_pairs (c ∷ cs) e =
     subst (λ (k : ℕ). elim k [ zero ↦ c ∷ cs | suc n ↦ units_after is_raw has_pairs n cs ] ≡ c ∷ cs) (sym e) refl
 
 pub text_goes : (is_raw has_pairs : Bool) (n : ℕ) (cs : List ℕ) → unit_len is_raw has_pairs cs ≡ suc n
-    → behind_text is_raw has_pairs cs ≡ behind_text is_raw has_pairs (drop (suc n) cs)
-unfolding behind_text
+    → after_text is_raw has_pairs cs ≡ after_text is_raw has_pairs (drop (suc n) cs)
+unfolding after_text
 text_goes is_raw has_pairs n [] e = refl
 text_goes is_raw has_pairs n (c ∷ cs) e =
     subst (λ (k : ℕ). elim k [ zero ↦ c ∷ cs | suc n ↦ units_after is_raw has_pairs n cs ] ≡ units_after is_raw has_pairs 0 (drop n cs))
@@ -109,8 +109,8 @@ scan_ends (longstring q) bs zero (c ∷ cs) r e =
           ]
     ]) e
 
-pub expression_ends : (cs r : List ℕ) → behind_expression cs ≡ Some r → EndsWith cs r
-unfolding behind_expression
+pub expression_ends : (cs r : List ℕ) → following_expression cs ≡ Some r → EndsWith cs r
+unfolding following_expression
 expression_ends cs r e = scan_ends expression [] 0 cs r e
 
 -- ---- Units.
@@ -153,12 +153,12 @@ none_unit : (n : ℕ) → not (n == 0) ≡ false → n ≡ 0
 none_unit n e = eqb-true n 0 (not-false (n == 0) e)
 
 pub text_more : (is_raw has_pairs : Bool) (cs : List ℕ) → not (unit_len is_raw has_pairs cs == 0) ≡ true
-    → behind_text is_raw has_pairs cs ≡ behind_text is_raw has_pairs (drop (unit_len is_raw has_pairs cs) cs)
+    → after_text is_raw has_pairs cs ≡ after_text is_raw has_pairs (drop (unit_len is_raw has_pairs cs) cs)
 text_more is_raw has_pairs cs e = let m = some_unit (unit_len is_raw has_pairs cs) e in text_goes is_raw has_pairs m.0 cs m.1
-    ∙ ap (λ (n : ℕ). behind_text is_raw has_pairs (drop n cs)) (sym m.1)
+    ∙ ap (λ (n : ℕ). after_text is_raw has_pairs (drop n cs)) (sym m.1)
 
 pub text_none : (is_raw has_pairs : Bool) (cs : List ℕ) → not (unit_len is_raw has_pairs cs == 0) ≡ false
-    → behind_text is_raw has_pairs cs ≡ drop (unit_len is_raw has_pairs cs) cs
+    → after_text is_raw has_pairs cs ≡ drop (unit_len is_raw has_pairs cs) cs
 text_none is_raw has_pairs cs e = let z = none_unit (unit_len is_raw has_pairs cs) e in text_stops is_raw has_pairs cs z
     ∙ ap (λ (n : ℕ). drop n cs) (sym z)
 

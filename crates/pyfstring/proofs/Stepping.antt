@@ -19,7 +19,7 @@ pub shorter : (cs : List ℕ) (c : ℕ) → slice_get cs 0 ≡ Some c → length
 shorter [] c e = cc
 shorter (d ∷ cs) c e = omega arith
 
--- what is left behind the longest front of characters that pass
+-- what is left after the longest front of characters that pass
 abbrev pub after_run : (ℕ → Bool) → List ℕ → List ℕ
 after_run p cs = drop (prefix_len p cs) cs
 

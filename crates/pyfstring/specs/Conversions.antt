@@ -4,7 +4,7 @@ use Rattle.pyfstring.specs.Characters.{small_a, small_r, small_s}
 use Rattle.pyfstring.specs.declared.parts.Conversion.{Conversion}
 use Rattle.pyfstring.specs.declared.parts.Conversion.TheVariants.{None as Unconverted, Str, Repr, Ascii}
 
--- the letter behind the `!`, or -1
+-- the letter after the `!`, or -1
 abbrev pub conversion_value : Conversion → ℤ
 conversion_value Unconverted = negsuc 0
 conversion_value Str = pos small_s

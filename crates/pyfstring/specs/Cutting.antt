@@ -1,4 +1,4 @@
--- The cut of a body as functions of what is left of it; each also gives what stands behind what it reads.
+-- The cut of a body as functions of what is left of it; each also gives what stands after what it reads.
 use Rattle.std.specs.Prelude.{◌≡◌, ℕ, zero, suc, ◌-◌, Bool, true, false, ◌==◌, ◌++◌, if◌then◌else◌, List, [], ◌∷◌, length, take, drop}
 use Rattle.std.specs.Prelude.{slice_get, Option, Some, None, is_some, option_map, option_and_then}
 use Rattle.std.specs.List.{list_all}
@@ -7,10 +7,10 @@ use Rattle.pyfstring.specs.declared.parts.Conversion.TheVariants.{None as Unconv
 use Rattle.pyfstring.specs.declared.parts.Manner.{Manner}
 use Rattle.pyfstring.specs.Characters.{exclamation_mark, colon, equals_sign, small_a, small_r, small_s, left_curly_bracket}
 use Rattle.pyfstring.specs.Characters.{right_curly_bracket}
-use Rattle.pyfstring.specs.Texts.{begins_with, behind_text}
-use Rattle.pyfstring.specs.Expressions.{behind_expression}
+use Rattle.pyfstring.specs.Texts.{begins_with, after_text}
+use Rattle.pyfstring.specs.Expressions.{following_expression}
 use Rattle.pyfstring.specs.Parts.{FieldParts, Part, text, field, SpecPart, BodyPart}
-use Rattle.pyfstring.specs.Pieces.{is_blank, behind_blanks, conversion_of}
+use Rattle.pyfstring.specs.Pieces.{is_blank, after_blanks, conversion_of}
 
 -- cs ends with rest
 abbrev pub EndsWith : List ℕ → List ℕ → Type 0
@@ -21,17 +21,17 @@ unfoldable pub before : List ℕ → List ℕ → List ℕ
 before cs rest = take (length cs - length rest) cs
 
 unfoldable pub text_at : Bool → Bool → List ℕ → Option (List ℕ × List ℕ)
-text_at is_raw has_pairs cs = Some (before cs (behind_text is_raw has_pairs cs), behind_text is_raw has_pairs cs)
+text_at is_raw has_pairs cs = Some (before cs (after_text is_raw has_pairs cs), after_text is_raw has_pairs cs)
 
 unfoldable pub expression_at : List ℕ → Option (List ℕ × List ℕ)
 expression_at cs = option_and_then (λ rest. elim (list_all is_blank (before cs rest)) [ true ↦ None | false ↦ Some (before cs rest, rest) ])
-    (behind_expression cs)
+    (following_expression cs)
 
 unfoldable pub kept_at : Bool → List ℕ → List ℕ → Option (Option (List ℕ) × List ℕ)
 kept_at is_nested cs here =
     elim (begins_with equals_sign here) [
       | false ↦ Some (None, here)
-      | true ↦ elim is_nested [ true ↦ None | false ↦ Some (Some (before cs (behind_blanks (drop 1 here))), behind_blanks (drop 1 here)) ]
+      | true ↦ elim is_nested [ true ↦ None | false ↦ Some (Some (before cs (after_blanks (drop 1 here))), after_blanks (drop 1 here)) ]
     ]
 
 abbrev pub conversion_by : ℕ → Option Conversion
@@ -65,13 +65,13 @@ with_spec f s = record { text = f.text; kept = f.kept; conversion = conversion_o
 unfoldable pub spec_at : {S : Type 0} → (List ℕ → Read S) → List ℕ → Read (Option S)
 spec_at spec cs = elim (begins_with colon cs) [ false ↦ Some (None, cs) | true ↦ option_map (λ s. (Some s.0, s.1)) (spec (drop 1 cs)) ]
 
-unfoldable pub behind_closing : List ℕ → Option (List ℕ)
-behind_closing cs = elim (begins_with right_curly_bracket cs) [ true ↦ Some (drop 1 cs) | false ↦ None ]
+unfoldable pub after_closing : List ℕ → Option (List ℕ)
+after_closing cs = elim (begins_with right_curly_bracket cs) [ true ↦ Some (drop 1 cs) | false ↦ None ]
 
 unfoldable pub field_at : {S : Type 0} → (List ℕ → Read S) → Bool → List ℕ → Read (FieldParts S)
 field_at {S} spec is_nested cs =
     option_and_then (λ (f : FrontParts × List ℕ). option_and_then (λ (s : Option S × List ℕ). option_map (λ rest. (with_spec f.0 s.0, rest))
-    (behind_closing s.1)) (spec_at spec f.1)) (front_at is_nested cs)
+    (after_closing s.1)) (spec_at spec f.1)) (front_at is_nested cs)
 
 -- of a cut whose first text and field are known
 abbrev pub put_first : {S : Type 0} → List ℕ → FieldParts S → Read (List (Part S)) → Read (List (Part S))
@@ -85,7 +85,7 @@ put_before done o = option_map (λ x. (done ++ x.0, x.1)) o
 abbrev pub cut_within : {S : Type 0} → Bool → Bool → (List ℕ → Read (FieldParts S)) → ℕ → List ℕ → Read (List (Part S))
 cut_within is_raw has_pairs field_at zero cs = None
 cut_within is_raw has_pairs field_at (suc n) cs =
-    let rest = behind_text is_raw has_pairs cs in
+    let rest = after_text is_raw has_pairs cs in
     elim (begins_with left_curly_bracket rest) [
       | false ↦ Some (text (before cs rest) ∷ [], rest)
       | true ↦ option_and_then (λ f. put_first (before cs rest) f.0 (cut_within is_raw has_pairs field_at n f.1)) (field_at (drop 1 rest))

@@ -78,7 +78,7 @@ pub data Inside : Type 0 where
   shortstring : ℕ → Inside
   longstring : ℕ → Inside
 
--- What stands behind an expression, read from here on; none where it has no end, or has what no expression has. The first n characters were
+-- What stands after an expression, read from here on; none where it has no end, or has what no expression has. The first n characters were
 -- read
 -- already.
 abbrev pub scan : Inside → List Bracket → ℕ → List ℕ → Option (List ℕ)
@@ -102,6 +102,6 @@ scan (longstring q) opened zero (c ∷ cs) = elim (c == backslash) [
   | false ↦ elim (begins_three q (c ∷ cs)) [ true ↦ scan expression opened 2 cs | false ↦ scan (longstring q) opened 0 cs ]
 ]
 
--- what stands behind the expression at the front
-unfoldable pub behind_expression : List ℕ → Option (List ℕ)
-behind_expression cs = scan expression [] 0 cs
+-- what stands after the expression at the front
+unfoldable pub following_expression : List ℕ → Option (List ℕ)
+following_expression cs = scan expression [] 0 cs

@@ -6,16 +6,16 @@ use Rattle.pyfstring.specs.declared.parts.Conversion.TheVariants.{None as Unconv
 use Rattle.pyfstring.specs.declared.parts.Manner.{Manner}
 use Rattle.pyfstring.specs.Characters.{tab, line_feed, line_tabulation, form_feed, carriage_return, space, exclamation_mark, colon}
 use Rattle.pyfstring.specs.Characters.{equals_sign, small_a, small_r, small_s, left_curly_bracket, right_curly_bracket}
-use Rattle.pyfstring.specs.Texts.{begins_with, behind_text}
-use Rattle.pyfstring.specs.Expressions.{behind_expression}
+use Rattle.pyfstring.specs.Texts.{begins_with, after_text}
+use Rattle.pyfstring.specs.Expressions.{following_expression}
 use Rattle.pyfstring.specs.Parts.{FieldParts, Part, text, field, SpecPart, BodyPart}
 
--- In each relation what is named stands at the front of `cs`, and `rest` is what stands behind it.
+-- In each relation what is named stands at the front of `cs`, and `rest` is what stands after it.
 
 -- a text: the longest run of units, perhaps empty
 pub record IsText (is_raw has_pairs : Bool) (cs t rest : List ℕ) : Type 0 where
   pub whole : cs ≡ t ++ rest
-  pub longest : behind_text is_raw has_pairs cs ≡ rest
+  pub longest : after_text is_raw has_pairs cs ≡ rest
 
 -- a space, tab, form feed, or a character of a line end
 abbrev pub is_blank : ℕ → Bool
@@ -27,22 +27,22 @@ is_blank c = (c == space) || (c == tab) || (c == form_feed) || (c == line_feed) 
 -- Of it only where it ends is read here, and that it isn't blanks alone.
 pub record IsExpression (cs t rest : List ℕ) : Type 0 where
   pub whole : cs ≡ t ++ rest
-  pub scanned : behind_expression cs ≡ Some rest
+  pub scanned : following_expression cs ≡ Some rest
   pub some : list_all is_blank t ≡ false
 
 abbrev pub is_blank_or_tabulation : ℕ → Bool
 is_blank_or_tabulation c = is_blank c || (c == line_tabulation)
 
-abbrev pub behind_blanks : List ℕ → List ℕ
-behind_blanks cs = drop (prefix_len is_blank_or_tabulation cs) cs
+abbrev pub after_blanks : List ℕ → List ℕ
+after_blanks cs = drop (prefix_len is_blank_or_tabulation cs) cs
 
--- ["="]: with it a field keeps its source so far, and the blanks behind it too; a field has none in a literal that stands in a field
+-- ["="]: with it a field keeps its source so far, and the blanks after it too; a field has none in a literal that stands in a field
 -- itself.
--- `cs` is the source of the field behind its brace, and `here` what is left of it.
+-- `cs` is the source of the field after its brace, and `here` what is left of it.
 pub data Keeps (is_nested : Bool) (cs : List ℕ) : List ℕ → Option (List ℕ) → List ℕ → Type 0 where
   unkept : {here : List ℕ} → begins_with equals_sign here ≡ false → Keeps is_nested cs here None here
-  kept : {here k : List ℕ} → is_nested ≡ false → cs ≡ k ++ behind_blanks here
-      → Keeps is_nested cs (equals_sign ∷ here) (Some k) (behind_blanks here)
+  kept : {here k : List ℕ} → is_nested ≡ false → cs ≡ k ++ after_blanks here
+      → Keeps is_nested cs (equals_sign ∷ here) (Some k) (after_blanks here)
 
 -- ["!" conversion]
 -- conversion ::= "s" | "r" | "a"
@@ -65,7 +65,7 @@ pub data Specifies {S : Type 0} (IsSpec : List ℕ → S → List ℕ → Type 0
   specified : {cs rest : List ℕ} {s : S} → IsSpec cs s rest → Specifies IsSpec (colon ∷ cs) (Some s) rest
 
 -- replacement_field ::= "{" f_expression ["="] ["!" conversion] [":" format_spec] "}"
--- Here the field stands behind its "{".
+-- Here the field stands after its "{".
 pub record IsField {S : Type 0} (IsSpec : List ℕ → S → List ℕ → Type 0) (is_nested : Bool) (cs : List ℕ) (f : FieldParts S)
     (rest : List ℕ) : Type 0 where
   pub after_expression : List ℕ
@@ -85,9 +85,9 @@ pub data Cuts {S : Type 0} (is_raw has_pairs : Bool) (IsField : List ℕ → Fie
     → List (Part S) → List ℕ → Type 0 where
   last_text : {cs t rest : List ℕ} → IsText is_raw has_pairs cs t rest → begins_with left_curly_bracket rest ≡ false
       → Cuts is_raw has_pairs IsField cs (text t ∷ []) rest
-  and_field : {cs t inside behind rest : List ℕ} {f : FieldParts S} {parts : List (Part S)} →
-      IsText is_raw has_pairs cs t (left_curly_bracket ∷ inside) → IsField inside f behind
-      → Cuts is_raw has_pairs IsField behind parts rest →
+  and_field : {cs t inside following rest : List ℕ} {f : FieldParts S} {parts : List (Part S)} →
+      IsText is_raw has_pairs cs t (left_curly_bracket ∷ inside) → IsField inside f following
+      → Cuts is_raw has_pairs IsField following parts rest →
       Cuts is_raw has_pairs IsField cs (text t ∷ field f ∷ parts) rest
 
 -- Specs nest at most once: in a spec stand fields, whose specs are texts. Of a spec two braces are no pair.

@@ -27,7 +27,7 @@ abbrev pub is_no_closing : ℕ → Bool
 is_no_closing c = not (c == right_curly_bracket)
 
 -- How many characters an escape has, so far as there are any: `\N{` with all up to and with the next `}`, `\N` with one more, a backslash
--- with the one behind it.
+-- with the one after it.
 abbrev pub escape_len : List ℕ → ℕ
 escape_len cs =
     if not (begins_with capital_n (drop 1 cs)) then 2
@@ -49,7 +49,7 @@ unit_len is_raw has_pairs cs =
     else (if has_pairs && begins_pair cs then 2
     else (if begins is_literal_char cs then 1 else 0))
 
--- what is left behind the longest run of units, where the first n characters belong to a unit already
+-- what is left after the longest run of units, where the first n characters belong to a unit already
 abbrev pub units_after : Bool → Bool → ℕ → List ℕ → List ℕ
 units_after is_raw has_pairs n [] = []
 units_after is_raw has_pairs (suc n) (c ∷ cs) = units_after is_raw has_pairs n cs
@@ -58,6 +58,6 @@ units_after is_raw has_pairs zero (c ∷ cs) = elim (unit_len is_raw has_pairs (
   | suc n ↦ units_after is_raw has_pairs n cs
 ]
 
--- what stands behind the text at the front: the longest run of units
-unfoldable pub behind_text : Bool → Bool → List ℕ → List ℕ
-behind_text is_raw has_pairs cs = units_after is_raw has_pairs 0 cs
+-- what stands after the text at the front: the longest run of units
+unfoldable pub after_text : Bool → Bool → List ℕ → List ℕ
+after_text is_raw has_pairs cs = units_after is_raw has_pairs 0 cs

@@ -25,7 +25,7 @@ impl<'a> Scanner<'a> {
         Some(self.text(manner.is_raw, false))
     }
 
-    /// The field of a spec that stands here, behind its `{`.
+    /// The field of a spec that stands here, after its `{`.
     fn inner_field(&mut self, alloc: Global, manner: Manner) -> Result<Field<'a, &'a str>, CutError>
         ensures ok { IfOk result
             (λ f. inner_field_at manner self.old ≡ Some (field_of text_of f, self.new)) }
@@ -73,7 +73,7 @@ impl<'a> Scanner<'a> {
         Ok(Some(pieces))
     }
 
-    /// The field of a body that stands here, behind its `{`.
+    /// The field of a body that stands here, after its `{`.
     fn field(
         &mut self,
         alloc: Global,

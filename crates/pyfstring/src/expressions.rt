@@ -4,7 +4,7 @@ ghost use Rattle.std.specs.Prelude.{◌≡◌, ◌&&◌, ◌<◌, ◌≤◌, len
 ghost use Rattle.pyfstring.specs.Texts.{begins};
 ghost use Rattle.pyfstring.specs.Expressions.{is_quote, is_refused, is_end, opened_by, closed_by};
 ghost use Rattle.pyfstring.specs.Expressions.{same_bracket, begins_comparison, begins_three};
-ghost use Rattle.pyfstring.specs.Expressions.{bracket_step, is_empty, step, behind_expression};
+ghost use Rattle.pyfstring.specs.Expressions.{bracket_step, is_empty, step, following_expression};
 ghost use Rattle.pyfstring.specs.Expressions.{expression, shortstring, longstring};
 ghost use Rattle.pyfstring.specs.Inner.Passing.{GoesOn, Stops, IfMalformed};
 
@@ -132,7 +132,9 @@ impl<'a> Scanner<'a> {
             return false;
         }
         match self.peek() {
-            Some(c) => { (c == '!' || c == '=' || c == '<' || c == '>') && self.is_behind(1, '=') }
+            Some(c) => {
+                (c == '!' || c == '=' || c == '<' || c == '>') && self.is_following(1, '=')
+            }
             None => false,
         }
     }
@@ -141,7 +143,7 @@ impl<'a> Scanner<'a> {
     fn has_three(&self, c: char) -> bool
         ensures { result ≡ begins_three c self.now }
     {
-        self.is_next(c) && self.is_behind(1, c) && self.is_behind(2, c)
+        self.is_next(c) && self.is_following(1, c) && self.is_following(2, c)
     }
 
     /// What stands here, by the brackets that are open.
@@ -227,9 +229,9 @@ impl<'a> Scanner<'a> {
 
     /// Passes the expression that stands here.
     pub(crate) fn pass_expression(&mut self, alloc: Global) -> Result<(), CutError>
-        ensures ok { OnOk result (behind_expression self.old ≡ Some self.new) }
+        ensures ok { OnOk result (following_expression self.old ≡ Some self.new) }
         ensures malformed { IfErr result
-            (λ e. IfMalformed e (behind_expression self.old ≡ None)) }
+            (λ e. IfMalformed e (following_expression self.old ≡ None)) }
     {
         let mut opened = Vec::new(alloc);
         loop {

@@ -4,10 +4,10 @@ ghost use Rattle.std.specs.Prelude.{◌≡◌, Some, None, IfOk, IfErr, OnOk, On
 ghost use Rattle.std.specs.List.{list_all};
 ghost use Rattle.std.specs.Str.{chars};
 ghost use Rattle.pyfstring.specs.Parts.{field_of, text_of};
-ghost use Rattle.pyfstring.specs.Pieces.{is_blank, is_blank_or_tabulation, behind_blanks};
+ghost use Rattle.pyfstring.specs.Pieces.{is_blank, is_blank_or_tabulation, after_blanks};
 ghost use Rattle.pyfstring.specs.Pieces.{conversion_of};
 ghost use Rattle.pyfstring.specs.Cutting.{EndsWith, expression_at, kept_at, conversion_by};
-ghost use Rattle.pyfstring.specs.Cutting.{conversion_at, front_at, behind_closing};
+ghost use Rattle.pyfstring.specs.Cutting.{conversion_at, front_at, after_closing};
 ghost use Rattle.pyfstring.specs.Inner.Passing.{IfMalformed};
 ghost use Rattle.pyfstring.specs.Inner.Fronts.{front_of, IsWith};
 
@@ -29,7 +29,7 @@ fn is_blank_or_tab(c: char) -> bool
     is_blank(c) || c == '\x0b'
 }
 
-/// What a letter behind `!` converts by.
+/// What a letter after `!` converts by.
 fn conversion_by(letter: char) -> Option<Conversion>
     ensures { result ≡ conversion_by letter }
 {
@@ -90,7 +90,7 @@ impl<'a> Front<'a> {
 impl<'a> Scanner<'a> {
     /// Passes blanks and vertical tabs.
     fn pass_blanks(&mut self)
-        ensures { self.new ≡ behind_blanks self.old }
+        ensures { self.new ≡ after_blanks self.old }
     {
         while let Some(c) = self.peek() {
             if !is_blank_or_tab(c) {
@@ -149,7 +149,7 @@ impl<'a> Scanner<'a> {
         Ok(conversion)
     }
 
-    /// The field that stands here, behind its `{`, up to its spec.
+    /// The field that stands here, after its `{`, up to its spec.
     pub(crate) fn front(&mut self, alloc: Global, is_nested: bool) -> Result<Front<'a>, CutError>
         ensures ok { IfOk result (λ f. front_at is_nested self.old ≡ Some (front_of f, self.new)) }
         ensures malformed { IfErr result
@@ -164,8 +164,8 @@ impl<'a> Scanner<'a> {
 
     /// Passes the `}` of a field.
     pub(crate) fn close(&mut self) -> Result<(), CutError>
-        ensures ok { OnOk result (behind_closing self.old ≡ Some self.new) }
-        ensures malformed { OnErr result (behind_closing self.old ≡ None) }
+        ensures ok { OnOk result (after_closing self.old ≡ Some self.new) }
+        ensures malformed { OnErr result (after_closing self.old ≡ None) }
     {
         if !self.eat('}') {
             return Err(CutError::Malformed);

@@ -21,7 +21,7 @@ pub enum Conversion {
 }
 
 impl Conversion {
-    /// The number that stands for it in Python's tree: the letter behind the `!`, or -1.
+    /// The number that stands for it in Python's tree: the letter after the `!`, or -1.
     pub fn value(self) -> i32
         ensures { result ≡ conversion_value self }
     {
@@ -43,7 +43,7 @@ pub struct Field<'a, S> {
     pub kept: Option<&'a str>,
     /// The conversion.
     pub conversion: Conversion,
-    /// What stands behind the `:`, cut into pieces.
+    /// What stands after the `:`, cut into pieces.
     pub spec: Option<S>,
 }
 

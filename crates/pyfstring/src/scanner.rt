@@ -102,9 +102,9 @@ impl<'a> Scanner<'a> {
         }
     }
 
-    /// Whether this character stands behind some others.
+    /// Whether this character stands after some others.
     #[inline(always)]
-    pub(crate) fn is_behind(&self, count: usize, c: char) -> bool
+    pub(crate) fn is_following(&self, count: usize, c: char) -> bool
         ensures { result ≡ begins_with c (drop count self.now) }
     {
         let mut ahead = self.again();

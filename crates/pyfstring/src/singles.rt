@@ -4,7 +4,7 @@ ghost use Rattle.std.specs.Prelude.{◌≡◌, IfOk};
 ghost use Rattle.std.specs.Str.{chars};
 ghost use Rattle.std.specs.String.{string_bytes};
 ghost use Rattle.pyfstring.specs.Singles.{single};
-ghost use Rattle.pyfstring.specs.Inner.Passing.{behind_brace};
+ghost use Rattle.pyfstring.specs.Inner.Passing.{after_brace};
 
 use crate::scanner::Scanner;
 use crate::texts::is_brace;
@@ -13,7 +13,7 @@ use std::alloc::{AllocError, Global};
 impl<'a> Scanner<'a> {
     /// Passes a brace, if one is next.
     fn pass_brace(&mut self)
-        ensures { self.new ≡ behind_brace self.old }
+        ensures { self.new ≡ after_brace self.old }
     {
         let Some(c) = self.peek() else {
             return;

@@ -5,7 +5,7 @@ ghost use Rattle.std.specs.Str.{chars};
 ghost use Rattle.std.specs.List.{prefix_len};
 ghost use Rattle.pyfstring.specs.Texts.{begins, is_brace, is_literal_char, is_no_closing};
 ghost use Rattle.pyfstring.specs.Texts.{begins_escape, begins_pair, escape_len, unit_len};
-ghost use Rattle.pyfstring.specs.Texts.{behind_text};
+ghost use Rattle.pyfstring.specs.Texts.{after_text};
 ghost use Rattle.pyfstring.specs.Cutting.{before};
 
 use crate::scanner::Scanner;
@@ -30,7 +30,7 @@ impl<'a> Scanner<'a> {
         }
     }
 
-    /// Whether an escape stands here: a backslash, and behind it a character other than a brace. A
+    /// Whether an escape stands here: a backslash, and after it a character other than a brace. A
     /// raw literal has none.
     #[inline(always)]
     fn has_escape(&self, is_raw: bool) -> bool
@@ -53,7 +53,7 @@ impl<'a> Scanner<'a> {
             return false;
         }
         match self.peek() {
-            Some(c) => is_brace(c) && self.is_behind(1, c),
+            Some(c) => is_brace(c) && self.is_following(1, c),
             None => false,
         }
     }
@@ -74,11 +74,11 @@ impl<'a> Scanner<'a> {
     fn pass_escape(&mut self)
         ensures { self.new ≡ drop (escape_len self.old) self.old }
     {
-        if !self.is_behind(1, 'N') {
+        if !self.is_following(1, 'N') {
             self.advance_by(2);
             return;
         }
-        if !self.is_behind(2, '{') {
+        if !self.is_following(2, '{') {
             self.advance_by(3);
             return;
         }
@@ -111,7 +111,7 @@ impl<'a> Scanner<'a> {
     /// The text that stands here, perhaps an empty one.
     pub(crate) fn text(&mut self, is_raw: bool, has_pairs: bool) -> &'a str
         ensures text { chars result.now ≡ before self.old self.new }
-        ensures rest { self.new ≡ behind_text is_raw has_pairs self.old }
+        ensures rest { self.new ≡ after_text is_raw has_pairs self.old }
     {
         let start = self.again();
         while self.pass_unit(is_raw, has_pairs) {}

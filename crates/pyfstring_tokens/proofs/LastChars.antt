@@ -1,6 +1,6 @@
 -- The last character of a string is a quote.
 --
--- Carries: new, next, by Behind. On: no other file.
+-- Carries: new, next, by After. On: no other file.
 use Rattle.std.proofs.Common.{◌≡◌, ℕ, Bool, true, false, not, ◌&&◌, ◌||◌, ◌==◌, List, [], ◌∷◌, ◌++◌, refl, sym, ap, ◌∙◌, arith, ⊎_elim}
 use Rattle.std.proofs.Common.{if◌then◌else◌}
 use Rattle.std.proofs.lemmas.Slice.Eq.{bytes_eq-Decides}
@@ -111,17 +111,17 @@ either_off p f d t e l = ⊎_elim
     (λ (h : p 34 t ≡ true). let z : 34 ≡ 41 = sym (f 34 d t h) ∙ l in omega arith)
     (or_cases (p 39 t) (p 34 t) e)
 
-behind_off : (p : List ℕ → Bool) → EndsOff p → (t : List ℕ) → split_any is_prefix p t ≡ true → last_of 0 t ≡ 41 → ⊥
-behind_off p f t e l = let s = split_of is_prefix p t e in
+after_off : (p : List ℕ → Bool) → EndsOff p → (t : List ℕ) → split_any is_prefix p t ≡ true → last_of 0 t ≡ 41 → ⊥
+after_off p f t e l = let s = split_of is_prefix p t e in
     f (last_of 0 s.front) s.rest s.passes (sym (ap (last_of 0) s.whole ∙ last_join 0 s.front s.rest) ∙ l)
 
 triples_off : (t : List ℕ) → is_triple_string t ≡ true → last_of 0 t ≡ 41 → ⊥
 unfolding is_triple_string
-triples_off t e l = behind_off (λ u. is_triple 39 u || is_triple 34 u) (either_off is_triple triple_last) t e l
+triples_off t e l = after_off (λ u. is_triple 39 u || is_triple 34 u) (either_off is_triple triple_last) t e l
 
 singles_off : (t : List ℕ) → is_single_string t ≡ true → last_of 0 t ≡ 41 → ⊥
 unfolding is_single_string
-singles_off t e l = behind_off (λ u. is_single 39 u || is_single 34 u) (either_off is_single single_last) t e l
+singles_off t e l = after_off (λ u. is_single 39 u || is_single 34 u) (either_off is_single single_last) t e l
 
 -- no string ends with a right parenthesis
 pub no_string : (cs t : List ℕ) → counts_as_string cs (t ++ 41 ∷ []) ≡ false

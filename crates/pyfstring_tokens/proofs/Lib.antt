@@ -2,7 +2,7 @@ pub mod Callers
 mod Cutting
 mod LastChars
 mod PlainEnds
-mod Behind
+mod Following
 mod Parentheses
 mod Steps
 mod Texts

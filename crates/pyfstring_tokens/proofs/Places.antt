@@ -1,6 +1,6 @@
 -- Where a reader of a field's tokens stands, from one lexeme to the next and at the end.
 --
--- Carries: new, next. On: Behind, Cutting, Parentheses, Steps, Texts.
+-- Carries: new, next. On: After, Cutting, Parentheses, Steps, Texts.
 use Rattle.std.proofs.Common.{◌≡◌, ℕ, ◌+◌, ◌-◌, ◌<◌, zero, suc, Bool, true, false, ◌&&◌, ◌==◌, List, [], ◌∷◌, ◌++◌, length, drop, refl, sym}
 use Rattle.std.proofs.Common.{ap, ◌∙◌, arith, Some, None, is_some, append_assoc}
 use Rattle.std.specs.List.{list_any}
@@ -26,7 +26,7 @@ use Rattle.pyfstring_tokens.specs.FieldTokens.{tokens_ahead, has_fault, opening,
 use Rattle.pyfstring_tokens.specs.FieldTokens.{is_of_comment, has_comment}
 use Rattle.pyfstring_tokens.specs.Answers.{field_token, Gives, Ends}
 use Rattle.pyfstring_tokens.specs.Standing.{closed, StandsAt}
-use Rattle.pyfstring_tokens.proofs.Behind.{lexeme_kept, none_kept}
+use Rattle.pyfstring_tokens.proofs.Following.{lexeme_kept, none_kept}
 use Rattle.pyfstring_tokens.proofs.Cutting.{cut_some, cut_nil}
 use Rattle.pyfstring_tokens.proofs.Parentheses.{left_front, right_front}
 use Rattle.pyfstring_tokens.proofs.Steps.{ahead, remaining_is, lexed, after_margin, none_fault, token_told, gap_told, entry_for}

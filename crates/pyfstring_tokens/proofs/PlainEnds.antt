@@ -1,7 +1,7 @@
 -- Of the lexemes other than strings and comments none but the operator itself ends with a right
 -- parenthesis.
 --
--- Carries: new, next, by Behind. On: LastChars.
+-- Carries: new, next, by After. On: LastChars.
 use Rattle.std.proofs.Common.{◌≡◌, ℕ, Bool, true, false, not, ◌&&◌, ◌||◌, ◌==◌, List, [], ◌∷◌, ◌++◌, refl, sym, ap, ◌∙◌, arith, ⊎_elim}
 use Rattle.std.proofs.Common.{None, leb}
 use Rattle.std.specs.List.{list_all}

@@ -48,7 +48,7 @@ pub remaining_is : (s : State) (text : List ℕ) → remaining None s text ≡ u
 unfolding remaining
 remaining_is s text = refl
 
--- the steps of the first lexeme, and what is behind it
+-- the steps of the first lexeme, and what is after it
 pub lexed : (s : State) (cs back : List ℕ) (x : Lexeme) → lexeme_at cs ≡ Some x → cs ≡ x.text ++ back
     → remaining None s cs ≡ up_to_end (gives s x ++ ahead (after s x) back)
 unfolding remaining
@@ -172,7 +172,7 @@ token_kind Blanks g c = cc
 token_kind LineEnd g c = cc
 token_kind Join g c = cc
 
--- what a token gives, and what is given behind it
+-- what a token gives, and what is given after it
 pub record Tells (text : List ℕ) (s : State) (x : Lexeme) (ss rs : List Step) : Type 0 where
   pub tokens : tokens_among text (entries_of ss) ≡ token_of text (entry_for s x) ∷ tokens_among text (entries_of rs)
   pub fault : fault_of ss ≡ fault_of rs

@@ -10,11 +10,11 @@ use Rattle.pyfstring_tokens.specs.FieldTokens.{FieldToken, tokens_ahead, closing
 abbrev pub field_token : Class → List ℕ → FieldToken
 field_token k t = record { kind = kind_of k true; exact = operator_of k; text = t }
 
--- behind n tokens of a text this one is the next
+-- after n tokens of a text this one is the next
 abbrev pub Gives : List ℕ → ℕ → Class → List ℕ → Type 0
 Gives text n k t = tokens_ahead text n ≡ field_token k t ∷ tokens_ahead text (n + 1)
 
--- behind n tokens of a text the parenthesis around it is closed, and that was all
+-- after n tokens of a text the parenthesis around it is closed, and that was all
 pub record Ends (text : List ℕ) (n : ℕ) : Type 0 where
   pub last : tokens_ahead text n ≡ closing ∷ []
   pub whole : has_fault text ≡ false

@@ -55,7 +55,7 @@ tokens_among text (e ∷ es) = if is_token_kind e.kind then token_of text e ∷ 
 unfoldable pub field_tokens : List ℕ → List FieldToken
 field_tokens text = tokens_among (parenthesized text) (entries_of (listing (field_source text)))
 
--- those behind the first parenthesis and n more
+-- those after the first parenthesis and n more
 abbrev pub tokens_ahead : List ℕ → ℕ → List FieldToken
 tokens_ahead text n = drop (n + 1) (field_tokens text)
 

@@ -15,7 +15,7 @@ use Rattle.pyfstring_tokens.specs.FieldTokens.{closes_outer, is_of_comment, has_
 abbrev pub closed : List ℕ → List ℕ
 closed rest = rest ++ right_parenthesis ∷ []
 
--- Behind n tokens of a text, with so many of its brackets open, this rest is left. A lister of the text in parentheses would stand there
+-- After n tokens of a text, with so many of its brackets open, this rest is left. A lister of the text in parentheses would stand there
 -- within
 -- these, and have the same tokens and the same fault ahead.
 pub record StandsAt (text : List ℕ) (n : ℕ) (rest : List ℕ) (within : ℕ) : Type 0 where
@@ -39,7 +39,7 @@ StandsIn f text n = StandsAt text n (chars f.rest.now) f.depth
 abbrev pub bytes_left : FieldTokens → ℕ
 bytes_left f = length f.rest.now
 
--- at the begin of a text, behind the parenthesis before it
+-- at the begin of a text, after the parenthesis before it
 pub record Begins (f : FieldTokens) (text : List ℕ) : Type 0 where
   pub stands : StandsIn f text 0
   pub first : field_tokens text ≡ opening ∷ tokens_ahead text 0

@@ -1,7 +1,7 @@
 -- What other crates cite: the laws of the grammar, of patterns and of sources; the reader within a
 -- height, level by level; lines within a height; what one terminal is; heights of targets; lines
 -- one by one, and the depths that they reach; the literals of a string; and which f-strings are open
--- behind lists.
+-- after lists.
 pub mod Law
 pub mod Steps
 pub mod Lines

@@ -265,5 +265,5 @@ pub data FirstFault : List Line → List Line → List Line → Fault → Type 0
   fault_at_end : {earlier : List Line} {f : Fault} → IsFault earlier 0 EndLine f → FirstFault earlier [] [] f
   fault_at : {earlier : List Line} {x : Line} {xs : List Line} {f : Fault} → IsFault earlier x.level (kind_of x.form) f
       → FirstFault earlier (x ∷ xs) (x ∷ xs) f
-  fault_behind : {earlier : List Line} {x : Line} {xs rest : List Line} {f : Fault} → IsClear earlier x.level (kind_of x.form)
+  fault_after : {earlier : List Line} {x : Line} {xs rest : List Line} {f : Fault} → IsClear earlier x.level (kind_of x.form)
       → FirstFault (x ∷ earlier) xs rest f → FirstFault earlier (x ∷ xs) rest f

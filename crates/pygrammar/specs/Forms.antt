@@ -49,9 +49,9 @@ pub data Perhaps : Level → List Terminal → Option Expr → Type 0 where
   given : {l : Level} {ts : List Terminal} {e : Expr} → Derives l ts e → Perhaps l ts (Some e)
 
 -- [t X]
-pub data Behind : Terminal → Level → List Terminal → Option Expr → Type 0 where
-  none_behind : {t : Terminal} {l : Level} → Behind t l [] None
-  behind : {t : Terminal} {l : Level} {ts : List Terminal} {e : Expr} → Derives l ts e → Behind t l (t ∷ ts) (Some e)
+pub data Following : Terminal → Level → List Terminal → Option Expr → Type 0 where
+  none_after : {t : Terminal} {l : Level} → Following t l [] None
+  following : {t : Terminal} {l : Level} {ts : List Terminal} {e : Expr} → Derives l ts e → Following t l (t ∷ ts) (Some e)
 
 -- ["as" NAME]
 pub data As : List Terminal → Option Identifier → Type 0 where
@@ -78,7 +78,7 @@ type_word form = Ident (record { spelling = type_name; form = form })
 
 -- TypeParam = NAME [":" Expression] | "*" NAME | "**" NAME
 pub data TypeParamOf : List Terminal → TypeParam → Type 0 where
-  type_var : {x : Spelled} {ts : List Terminal} {bound : Option Expr} → Behind (Op Sign.Colon) Expression ts bound
+  type_var : {x : Spelled} {ts : List Terminal} {bound : Option Expr} → Following (Op Sign.Colon) Expression ts bound
       → TypeParamOf (Ident x ∷ ts) (TypeVar x.form bound)
   type_var_tuple : {x : Spelled} → TypeParamOf (Op Sign.Star ∷ (Ident x ∷ [])) (TypeVarTuple x.form)
   param_spec : {x : Spelled} → TypeParamOf (Op Sign.DoubleStar ∷ (Ident x ∷ [])) (ParamSpec x.form)
@@ -161,15 +161,15 @@ pub data Simple (profile : Profile) : List Terminal → Stmt → Type 0 where
       SingleTarget ts t → augmented x ≡ Some o → Derives Value us e → Simple profile (ts ++ (Op x ∷ us)) (AugAssign t o e)
   -- NAME ":" Expression ["=" Value]
   annotated_name : {x : Spelled} {ts us : List Terminal} {a : Expr} {v : Option Expr} →
-      Derives Expression ts a → Behind (Op Sign.Equal) Value us v →
+      Derives Expression ts a → Following (Op Sign.Equal) Value us v →
       Simple profile (Ident x ∷ (Op Sign.Colon ∷ (ts ++ us))) (AnnAssign (Trees.Name x.form Store) a v true)
   -- "(" SingleTarget ")" ":" Expression ["=" Value]
   annotated_group : {ts us vs : List Terminal} {t a : Expr} {v : Option Expr} →
-      SingleTarget ts t → Derives Expression us a → Behind (Op Sign.Equal) Value vs v →
+      SingleTarget ts t → Derives Expression us a → Following (Op Sign.Equal) Value vs v →
       Simple profile (Op Sign.LPar ∷ (ts ++ (Op Sign.RPar ∷ (Op Sign.Colon ∷ (us ++ vs))))) (AnnAssign t a v false)
   -- Attribute or Subscript ":" Expression ["=" Value]
   annotated_part : {ts us vs : List Terminal} {t a : Expr} {v : Option Expr} →
-      SingleTarget ts t → is_name t ≡ false → Derives Expression us a → Behind (Op Sign.Equal) Value vs v →
+      SingleTarget ts t → is_name t ≡ false → Derives Expression us a → Following (Op Sign.Equal) Value vs v →
       Simple profile (ts ++ (Op Sign.Colon ∷ (us ++ vs))) (AnnAssign t a v false)
   -- "type" NAME [TypeParams] "=" Expression
   type_alias : {form : Identifier} {x : Spelled} {ts us : List Terminal} {ps : List TypeParam} {e : Expr} →
@@ -181,10 +181,10 @@ pub data Simple (profile : Profile) : List Terminal → Stmt → Type 0 where
   raise_alone : Simple profile (Word Key.Raise ∷ []) (Raise None None)
   -- "raise" [Expression ["from" Expression]], with the first
   raise_of : {ts us : List Terminal} {e : Expr} {c : Option Expr} →
-      Derives Expression ts e → Behind (Word Key.From) Expression us c → Simple profile (Word Key.Raise ∷ (ts ++ us)) (Raise (Some e) c)
+      Derives Expression ts e → Following (Word Key.From) Expression us c → Simple profile (Word Key.Raise ∷ (ts ++ us)) (Raise (Some e) c)
   -- "assert" Expression ["," Expression]
   assert_of : {ts us : List Terminal} {e : Expr} {m : Option Expr} →
-      Derives Expression ts e → Behind (Op Sign.Comma) Expression us m → Simple profile (Word Key.Assert ∷ (ts ++ us)) (Assert e m)
+      Derives Expression ts e → Following (Op Sign.Comma) Expression us m → Simple profile (Word Key.Assert ∷ (ts ++ us)) (Assert e m)
   -- "del" DelTarget,.. [,]
   delete : {ts : List Terminal} {es : List Expr} → Commas? Expr DelTarget ts es → Simple profile (Word Key.Del ∷ ts) (Delete es)
   -- "global" NAME,..
@@ -278,7 +278,7 @@ pub data HeaderOf (profile : Profile) : List Terminal → Header → Type 0 wher
   def_line : {ts us vs ws : List Terminal} {b : Bool} (x : Spelled) {tps : List TypeParam} {ps : List Entry}
       {a : Arguments} {r : Option Expr} →
       Async ts b → TypeParams profile us tps → Listing (Parameter true) vs ps → arranged ps ≡ Some a
-      → Behind (Op Sign.RArrow) Expression ws r →
+      → Following (Op Sign.RArrow) Expression ws r →
       HeaderOf profile (ts ++ (Word Key.Def ∷ (Ident x ∷ (us ++ (Op Sign.LPar ∷ (vs ++ (Op Sign.RPar ∷ ws)))))))
       (def_header (function_head b x.form tps a r))
   -- "class" NAME [TypeParams] ["(" [Args] ")"]
@@ -316,7 +316,7 @@ is_case_line profile inside ts = is_whole profile.extent && (inside && begins_ca
 -- "case" Patterns ["if" Named], up to the colon
 pub data CaseOf : List Terminal → Header → Type 0 where
   case_line : {ts us : List Terminal} {p : Pattern} {g : Option Expr} (form : Identifier) → DerivesPattern Patterns ts p
-      → Behind (Word Key.If) Named us g →
+      → Following (Word Key.If) Named us g →
       CaseOf (case_word form ∷ (ts ++ us)) (case_header p g)
 
 -- ---- Lines.

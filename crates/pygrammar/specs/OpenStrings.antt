@@ -6,25 +6,25 @@ use Rattle.pytoken.specs.Terminals.{Terminal, FormattedBegin, FormattedEnd, Fiel
 abbrev pub Open : Type 0
 Open = List ℕ
 
--- what is open behind a terminal
-abbrev pub open_behind : Open → Terminal → Open
-open_behind o FormattedBegin = 0 ∷ o
-open_behind (n ∷ o) FormattedEnd = o
-open_behind (n ∷ o) (FieldBegin c) = suc n ∷ o
-open_behind (n ∷ o) FieldEnd = (n - 1) ∷ o
-open_behind o t = o
+-- what is open after a terminal
+abbrev pub open_following : Open → Terminal → Open
+open_following o FormattedBegin = 0 ∷ o
+open_following (n ∷ o) FormattedEnd = o
+open_following (n ∷ o) (FieldBegin c) = suc n ∷ o
+open_following (n ∷ o) FieldEnd = (n - 1) ∷ o
+open_following o t = o
 
--- what is open behind some
-abbrev pub open_behind_all : Open → List Terminal → Open
-open_behind_all o [] = o
-open_behind_all o (t ∷ ts) = open_behind_all (open_behind o t) ts
+-- what is open after some
+abbrev pub open_after_all : Open → List Terminal → Open
+open_after_all o [] = o
+open_after_all o (t ∷ ts) = open_after_all (open_following o t) ts
 
 -- how many of them begin a token, where so much is open before them
-abbrev pub tokens_behind : Open → List Terminal → ℕ
-tokens_behind o [] = 0
-tokens_behind [] (t ∷ ts) = suc (tokens_behind (open_behind [] t) ts)
-tokens_behind (n ∷ o) (t ∷ ts) = tokens_behind (open_behind (n ∷ o) t) ts
+abbrev pub tokens_after : Open → List Terminal → ℕ
+tokens_after o [] = 0
+tokens_after [] (t ∷ ts) = suc (tokens_after (open_following [] t) ts)
+tokens_after (n ∷ o) (t ∷ ts) = tokens_after (open_following (n ∷ o) t) ts
 
 -- how many tokens a list is
 abbrev pub token_count : List Terminal → ℕ
-token_count = tokens_behind []
+token_count = tokens_after []

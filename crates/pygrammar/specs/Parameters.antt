@@ -4,7 +4,7 @@ use Rattle.pytree_node.specs.Trees.{Exprs, no_exprs, an_expr, OptionalExpr, abse
 use Rattle.pytree_node.specs.Trees.{absent_arg, present_arg, Arguments, arguments}
 use Rattle.pygrammar.specs.Entries.{Entry, Plain, Slashed, Bare, Gathered, Collected}
 
--- Parameters, in this order: plain ones, and `/` behind at least one; plain ones; `*` NAME, or a bare `*` that a keyword-only one follows;
+-- Parameters, in this order: plain ones, and `/` after at least one; plain ones; `*` NAME, or a bare `*` that a keyword-only one follows;
 -- keyword-only ones; `**` NAME. No plain one without a default follows one with.
 abbrev pub with_kwarg : Arg → Arguments
 with_kwarg a = arguments no_arg no_arg absent_arg no_arg no_optional (present_arg a) no_exprs

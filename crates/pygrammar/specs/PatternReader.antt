@@ -166,7 +166,7 @@ module _ (d : ℕ) (self : Reads) (inner : PatternReads) where
   abbrev pub class_arguments : Expr → List Terminal → Answer Pattern
   class_arguments e i = and_then (entries_of ClassArgument i) (λ es r. on_first (is_op RPar) r (λ _ r1. made (class_of e es) r1) NoForm)
 
-  -- after a NAME that is no wildcard, and the NAMEs after points behind it: a class pattern, a value or a capture
+  -- after a NAME that is no wildcard, and the NAMEs after points after it: a class pattern, a value or a capture
   abbrev pub dotted_pattern : Expr → List Terminal → Answer Pattern
   dotted_pattern (Trees.Name x c) r = on_first (is_op LPar) r (λ _ r1. class_arguments (Trees.Name x c) r1)
       (Found (MatchAs absent_pattern (Some x)) r)

@@ -92,32 +92,32 @@ infix_rank Raise = 21
 infix_rank (Joins o) = rank (chain_level o)
 infix_rank Compares = 13
 
-abbrev pub behind : Terminal → Option Infix
-behind (Word Key.Or) = Some (Joins Join.Or)
-behind (Word Key.And) = Some (Joins Join.And)
-behind (Op EqEqual) = Some Compares
-behind (Op NotEqual) = Some Compares
-behind (Op Less) = Some Compares
-behind (Op LessEqual) = Some Compares
-behind (Op Greater) = Some Compares
-behind (Op GreaterEqual) = Some Compares
-behind (Word Key.In) = Some Compares
-behind (Word Key.Not) = Some Compares
-behind (Word Key.Is) = Some Compares
-behind (Op VBar) = Some (Left BitOr Bin.BitOr)
-behind (Op Circumflex) = Some (Left BitXor Bin.BitXor)
-behind (Op Amper) = Some (Left BitAnd Bin.BitAnd)
-behind (Op LeftShift) = Some (Left Shift Bin.LShift)
-behind (Op RightShift) = Some (Left Shift Bin.RShift)
-behind (Op Plus) = Some (Left Sum Bin.Add)
-behind (Op Minus) = Some (Left Sum Bin.Sub)
-behind (Op Star) = Some (Left Term Bin.Mult)
-behind (Op Slash) = Some (Left Term Bin.Div)
-behind (Op DoubleSlash) = Some (Left Term Bin.FloorDiv)
-behind (Op Percent) = Some (Left Term Bin.Mod)
-behind (Op At) = Some (Left Term Bin.MatMult)
-behind (Op DoubleStar) = Some Raise
-behind _ = None
+abbrev pub following : Terminal → Option Infix
+following (Word Key.Or) = Some (Joins Join.Or)
+following (Word Key.And) = Some (Joins Join.And)
+following (Op EqEqual) = Some Compares
+following (Op NotEqual) = Some Compares
+following (Op Less) = Some Compares
+following (Op LessEqual) = Some Compares
+following (Op Greater) = Some Compares
+following (Op GreaterEqual) = Some Compares
+following (Word Key.In) = Some Compares
+following (Word Key.Not) = Some Compares
+following (Word Key.Is) = Some Compares
+following (Op VBar) = Some (Left BitOr Bin.BitOr)
+following (Op Circumflex) = Some (Left BitXor Bin.BitXor)
+following (Op Amper) = Some (Left BitAnd Bin.BitAnd)
+following (Op LeftShift) = Some (Left Shift Bin.LShift)
+following (Op RightShift) = Some (Left Shift Bin.RShift)
+following (Op Plus) = Some (Left Sum Bin.Add)
+following (Op Minus) = Some (Left Sum Bin.Sub)
+following (Op Star) = Some (Left Term Bin.Mult)
+following (Op Slash) = Some (Left Term Bin.Div)
+following (Op DoubleSlash) = Some (Left Term Bin.FloorDiv)
+following (Op Percent) = Some (Left Term Bin.Mod)
+following (Op At) = Some (Left Term Bin.MatMult)
+following (Op DoubleStar) = Some Raise
+following _ = None
 
 -- what an operator in front of an expression makes
 pub data Prefix : Type 0 where
@@ -142,7 +142,7 @@ at_least f k None = None
 at_least f k (Some a) = cond (leb k (f a)) (Some a) None
 
 abbrev pub infix_from : ℕ → Terminal → Option Infix
-infix_from k t = at_least infix_rank k (behind t)
+infix_from k t = at_least infix_rank k (following t)
 
 abbrev pub prefix_from : ℕ → Terminal → Option Prefix
 prefix_from k t = at_least prefix_rank k (before t)

@@ -214,7 +214,7 @@ module _ (self : Reads) where
       (λ e r1. and_then (spec_with parts u r1) (λ s r2. on_first is_field_end r2 (λ _ r3. Found (Trees.FormattedValue e c s) r3) NoForm)))
       NoForm
 
-  -- (text | replacement_field)*, behind other parts
+  -- (text | replacement_field)*, after other parts
   abbrev pub parts_loop : Bool → ℕ → List StringPart → List Terminal → Answer (List StringPart)
   parts_loop u zero acc r = Found acc r
   parts_loop u (suc m) acc r =
@@ -227,7 +227,7 @@ module _ (self : Reads) where
   abbrev pub formatted_step : Bool → List StringPart → List Terminal → Answer (List StringPart)
   formatted_step u acc r = and_then (parts_loop u (length r) acc r) (λ ps r1. on_first is_formatted_end r1 (λ _ r2. Found ps r2) NoForm)
 
-  -- (STRING | f_string)*, behind other parts
+  -- (STRING | f_string)*, after other parts
   abbrev pub literals_loop : Bool → ℕ → List StringPart → List Terminal → Answer (List StringPart)
   literals_loop u zero acc r = Found acc r
   literals_loop u (suc m) acc r =

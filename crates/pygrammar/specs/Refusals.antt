@@ -36,8 +36,8 @@ pub data Reason : Type 0 where
 
 -- where the line of this number starts, the first being 0; where there is none, ENDMARKER, the last token
 pub data StartsAt (s : Source) (n : ℕ) : Place → Type 0 where
-  at_line : (before behind : List Tokens.Line) (x : Tokens.Line) (t : Token) (ts : List Token) →
-      lines s ≡ before ++ (x ∷ behind) → length before ≡ n → x.tokens ≡ t ∷ ts → StartsAt s n t.start
+  at_line : (before following : List Tokens.Line) (x : Tokens.Line) (t : Token) (ts : List Token) →
+      lines s ≡ before ++ (x ∷ following) → length before ≡ n → x.tokens ≡ t ∷ ts → StartsAt s n t.start
   at_end : (before : List Token) (t : Token) → length (lines s) ≡ n → tokens s ≡ before ++ (t ∷ []) → StartsAt s n t.start
 
 -- ---- Lines and forms.
@@ -55,7 +55,7 @@ pub record HasForm (profile : Profile) (inside : Bool) (x : Tokens.Line) (f : Fo
   pub is : FormAt profile inside (terminals x) f
   pub low : form_height f ≤ 500
 
--- lines and their forms, behind earlier ones
+-- lines and their forms, after earlier ones
 pub data Formed (profile : Profile) : List Line → List Tokens.Line → List Line → Type 0 where
   formed_end : {earlier : List Line} → Formed profile earlier [] []
   formed_line : {earlier : List Line} {x : Tokens.Line} {xs : List Tokens.Line} {f : Form} {ys : List Line} →
@@ -80,7 +80,7 @@ pub data Unread (profile : Profile) (inside : Bool) (x : Tokens.Line) : Code →
 pub data FirstUnread (profile : Profile) : List Line → List Tokens.Line → ℕ → Code → Type 0 where
   unread : {earlier : List Line} {x : Tokens.Line} {xs : List Tokens.Line} {c : Code} →
       Unread profile (stands_in_match x.level earlier) x c → FirstUnread profile earlier (x ∷ xs) 0 c
-  unread_behind : {earlier : List Line} {x : Tokens.Line} {xs : List Tokens.Line} {f : Form} {n : ℕ} {c : Code} →
+  unread_after : {earlier : List Line} {x : Tokens.Line} {xs : List Tokens.Line} {f : Form} {n : ℕ} {c : Code} →
       HasForm profile (stands_in_match x.level earlier) x f → FirstUnread profile (line x.level f ∷ earlier) xs n c →
       FirstUnread profile earlier (x ∷ xs) (suc n) c
 
@@ -129,7 +129,7 @@ IsDeep (Some n) = 500 ≤ n
 -- the first line in which a statement begins that has 500 around it
 pub data FirstDeep : List Line → List Line → ℕ → Type 0 where
   deep : {earlier : List Line} {x : Line} {xs : List Line} → IsDeep (beginning x earlier) → FirstDeep earlier (x ∷ xs) 0
-  deep_behind : {earlier : List Line} {x : Line} {xs : List Line} {n : ℕ} → (IsDeep (beginning x earlier) → ⊥)
+  deep_after : {earlier : List Line} {x : Line} {xs : List Line} {n : ℕ} → (IsDeep (beginning x earlier) → ⊥)
       → FirstDeep (x ∷ earlier) xs n → FirstDeep earlier (x ∷ xs) (suc n)
 
 -- ---- The answer.

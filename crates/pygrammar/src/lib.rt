@@ -14,7 +14,7 @@
 //! operators of `Precedence` and the tests of `Looks`. `Capped` is that function within a height,
 //! and `Meets` what its answers mean. `Laws` says that they agree, hence that a list is at most one
 //! expression. `Lengths` says how many terminals count beside a height, and `OpenStrings` which
-//! f-strings are open behind a list of terminals, and how many tokens it is.
+//! f-strings are open after a list of terminals, and how many tokens it is.
 //!
 //! `PatternGrammar` is the table of patterns, over `PatternOperators` and `PatternEntries`;
 //! `PatternReader` that table as a function within a height, `PatternMeets` what its answers mean,

@@ -1,4 +1,4 @@
--- What callers compute with: when a cursor is one of a source, the steps of a listing behind its
+-- What callers compute with: when a cursor is one of a source, the steps of a listing after its
 -- first ones, the lexemes of a text, and the machine's run over these.
 --
 -- Carries: what pyast_command, pyparse_tokens, pyunparse_text, pytoken cite. On: Lexed, Finding, Run.
@@ -19,7 +19,7 @@ use Rattle.pylex_listing.specs.Laws.{LiesIn, AllLie}
 use Rattle.pylex_listing.specs.Listing.{Source, listing, rest, up_to_end, origin, steps_from}
 use Rattle.pylex.specs.Standing.{is_cursor_of, IsCursorOf}
 use Rattle.pylex_listing.specs.Steps.{entries_of, fault_of, mark}
-pub use Rattle.pylex.proofs.Texts.Spaces.{spaces_utf8, spaces_chars, behind_spaces}
+pub use Rattle.pylex.proofs.Texts.Spaces.{spaces_utf8, spaces_chars, after_spaces}
 
 equals_itself : (n : ℕ) → (n == n) ≡ true
 equals_itself n = grind (arith, nat_tests)
@@ -67,26 +67,26 @@ same_itself c = rw (
 ) ((bytes_decides c.levels c.levels).1 refl)
 
 -- a cursor of a source, by the entries of that
-pub record IsBehind (c : CursorParts) (s : Source) : Type 0 where
+pub record IsFollowing (c : CursorParts) (s : Source) : Type 0 where
   pub within : c.given ≤ length (entries_of (listing s))
   pub is : c ≡ cursor s c.given
 
--- to be a cursor of a source is to be that behind so many of its entries
-pub is_behind : {c : CursorParts} {s : Source} → IsCursorOf c s → IsBehind c s
+-- to be a cursor of a source is to be that after so many of its entries
+pub is_following : {c : CursorParts} {s : Source} → IsCursorOf c s → IsFollowing c s
 unfolding is_cursor_of
-is_behind {c} {s} h = let t = and_parts (nat_le c.given (length (entries_of (listing s)))) _ h in let w = t.0 in
+is_following {c} {s} h = let t = and_parts (nat_le c.given (length (entries_of (listing s)))) _ h in let w = t.0 in
     record { within = grind (arith, nat_tests); is = same_is c (cursor s c.given) t.1 }
 
 is_within : (m n : ℕ) → m ≤ n → nat_le m n ≡ true
 is_within m n h = grind (arith, nat_tests)
 
-pub is_own : {c : CursorParts} {s : Source} → IsBehind c s → IsCursorOf c s
+pub is_own : {c : CursorParts} {s : Source} → IsFollowing c s → IsCursorOf c s
 unfolding is_cursor_of
 is_own {c} {s} o =
     let same : same_parts c (cursor s c.given) ≡ true = ap (λ d. same_parts c d) (sym o.is) ∙ same_itself c in
     rw (is_within c.given (length (entries_of (listing s))) o.within) same
 
--- a list behind its first k elements, of which the next is known
+-- a list after its first k elements, of which the next is known
 pub drop_at : {X : Type 0} (xs : List X) (k : ℕ) (x : X) → slice_get xs k ≡ Some x → drop k xs ≡ x ∷ drop (k + 1) xs
 drop_at [] k x h = cc
 drop_at (y ∷ ys) zero x h = let e : y ≡ x = cc in ap (λ z. z ∷ ys) e
@@ -103,22 +103,22 @@ listing_ends : (s : Source) → up_to_end (listing s) ≡ listing s
 unfolding listing
 listing_ends s = up_to_end_twice (mark kinds.Encoding [] origin origin ∷ steps_from s.fault (left_by_cut s.text) [] (cut s.text))
 
-ends_behind : (ss : List Step) (k : ℕ) → up_to_end ss ≡ ss → up_to_end (drop k ss) ≡ drop k ss
-ends_behind ss zero u = u
-ends_behind [] (suc k) u = refl
-ends_behind (steps.Entry e ∷ ss) (suc k) u = let t : up_to_end ss ≡ ss = cc in ends_behind ss k t
-ends_behind (steps.End ∷ ss) (suc k) u = let n : [] ≡ ss = cc in rw (← n) (none k)
+ends_following : (ss : List Step) (k : ℕ) → up_to_end ss ≡ ss → up_to_end (drop k ss) ≡ drop k ss
+ends_following ss zero u = u
+ends_following [] (suc k) u = refl
+ends_following (steps.Entry e ∷ ss) (suc k) u = let t : up_to_end ss ≡ ss = cc in ends_following ss k t
+ends_following (steps.End ∷ ss) (suc k) u = let n : [] ≡ ss = cc in rw (← n) (none k)
   where
     none : (k : ℕ) → up_to_end (drop k []) ≡ drop k []
     none zero = refl
     none (suc k) = refl
-ends_behind (steps.Fault f ∷ ss) (suc k) u = let n : [] ≡ ss = cc in rw (← n) (none k)
+ends_following (steps.Fault f ∷ ss) (suc k) u = let n : [] ≡ ss = cc in rw (← n) (none k)
   where
     none : (k : ℕ) → up_to_end (drop k []) ≡ drop k []
     none zero = refl
     none (suc k) = refl
 
--- the steps behind k entries, of which the next is known
+-- the steps after k entries, of which the next is known
 pub next_is : (s : Source) (k : ℕ) (step : Step) → slice_get (listing s) k ≡ Some step → rest s k ≡ step ∷ rest s (k + 1)
 next_is s k step h = drop_at (listing s) k step h
 
@@ -133,12 +133,12 @@ last_fault ss left f u h = let w : up_to_end (steps.Fault f ∷ left) ≡ steps.
 
 -- the next step is the end
 pub end_last : (s : Source) (k : ℕ) → slice_get (listing s) k ≡ Some steps.End → (entries_of (rest s k) ≡ []) × (fault_of (rest s k) ≡ None)
-end_last s k h = last_end (rest s k) _ (ends_behind (listing s) k (listing_ends s)) (next_is s k steps.End h)
+end_last s k h = last_end (rest s k) _ (ends_following (listing s) k (listing_ends s)) (next_is s k steps.End h)
 
 -- the next step is a fault
 pub fault_last : (s : Source) (k : ℕ) (f : ListingFault) → slice_get (listing s) k ≡ Some (steps.Fault f)
     → (entries_of (rest s k) ≡ []) × (fault_of (rest s k) ≡ Some f)
-fault_last s k f h = last_fault (rest s k) _ f (ends_behind (listing s) k (listing_ends s)) (next_is s k (steps.Fault f) h)
+fault_last s k f h = last_fault (rest s k) _ f (ends_following (listing s) k (listing_ends s)) (next_is s k (steps.Fault f) h)
 
 -- each entry lies in the text that all lie in
 pub entry_lies : (text : List ℕ) (ss : List Step) (k : ℕ) (e : Entry) → AllLie text ss

@@ -10,7 +10,7 @@ pub mod Searching
 pub mod Stepping
 pub mod Steppings
 pub mod Beginning
-pub mod Behind
+pub mod Following
 pub mod Adding
 pub mod LexedOn
 pub mod AheadOn

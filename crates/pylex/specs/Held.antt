@@ -55,7 +55,7 @@ pub record IsOpenAt (o : OpenLiteral) (at : ℕ) (text : List ℕ) : Type 0 wher
   pub none : lexeme_at (chars (drop at text)) ≡ None
 
 -- A text is read further after a literal: its last line begins at an offset, and in front of that the literal is open.
-pub record LinesBehind (o : OpenLiteral) (at from : ℕ) (old new : Buffered) (text : List ℕ) : Type 0 where
+pub record LinesAfter (o : OpenLiteral) (at from : ℕ) (old new : Buffered) (text : List ℕ) : Type 0 where
   pub front : List ℕ
   pub line : List ℕ
   pub whole : text ≡ front ++ line

@@ -144,7 +144,7 @@ pub record EntryAhead (levels : List ℕ) (p : LineState) (cs : List ℕ) (e : E
   pub settled : (there.margin && begins_significant before) ≡ false
   pub stands : lexeme_at before ≡ Some lexeme
   pub own : entry_by (with_levels there (0 ∷ levels)) lexeme ≡ steps.Entry e ∷ []
-  pub behind : ds ≡ drop (lexeme_len before) before
+  pub following : ds ≡ drop (lexeme_len before) before
   pub goes : with_levels q (0 ∷ levels) ≡ after (with_levels there (0 ∷ levels)) lexeme
 
 -- what gives a fault where a lister stands: a line whose width is that of no level, or a lexeme
@@ -207,12 +207,12 @@ pub record Settles (levels : List ℕ) (p : LineState) (cs : List ℕ) (q : Line
   pub settled : (q.margin && begins_significant cs) ≡ false
 
 -- a text stands at the end of another
-abbrev pub Behind : List ℕ → List ℕ → Type 0
-Behind whole rest = (front : List ℕ) × (whole ≡ front ++ rest)
+abbrev pub Following : List ℕ → List ℕ → Type 0
+Following whole rest = (front : List ℕ) × (whole ≡ front ++ rest)
 
 -- from a place in a text an entry comes next, whatever levels are open: with how far a lister is after it, and what is left there
 pub record NextEntry (p : LineState) (text : List ℕ) (e : Entry) (q : LineState) (rest : List ℕ) : Type 0 where
   pub entry : (levels : List ℕ) → EntryAhead levels p (chars text) e q (chars rest)
   pub stands : Stands q rest
   pub room : (n : ℕ) → HasRoom p (length text + n) → HasRoom q (length rest + n)
-  pub behind : Behind text rest
+  pub following : Following text rest

@@ -117,10 +117,10 @@ IsAhead old new (steps.Fault f) = Unit {0}
 pub record AwaitsLine (v : Streamed) : Type 0 where
   pub begun : 0 < v.shown.given
   pub there : LineState
-  pub behind : List ℕ
-  pub passes : Comes (take v.nested v.levels) v.now (chars v.left) there behind
-  pub stop : StopAhead there behind
-  pub lacks : (behind ≡ []) ⊎ (is_open_string behind ≡ true)
+  pub following : List ℕ
+  pub passes : Comes (take v.nested v.levels) v.now (chars v.left) there following
+  pub stop : StopAhead there following
+  pub lacks : (following ≡ []) ⊎ (is_open_string following ≡ true)
   pub line : MayCome v.lines
 
 -- A step: in each source in which the lister stood it comes next, and the lister stands after it. If memory runs out, it stands where it

@@ -5,7 +5,7 @@ ghost use Rattle.std.specs.Prelude.{Option, option_map, OnSome};
 ghost use Rattle.std.specs.Str.{chars};
 ghost use Rattle.pylex_listing.specs.Listing.{of_line, stop_fault};
 ghost use Rattle.pylex_listing.specs.Steps.{first_step, HasNoText, IsNoEntry, IsAt};
-ghost use Rattle.pylex_listing.specs.Machine.{remaining, behind_steps};
+ghost use Rattle.pylex_listing.specs.Machine.{remaining, after_steps};
 ghost use Rattle.pylex.specs.LineState.{Stands, IsAscending, StopAhead, closing, with_levels};
 ghost use Rattle.pylex.specs.LineState.{given, GivesNoText, IsGivenFault, GivesAt};
 
@@ -57,7 +57,7 @@ fn stop(now: LineState, left: &str, fault: Option<LineFault>) -> Emitted
     requires stop { StopAhead now (chars left.now) }
     ensures steps { (levels : List ℕ)
         → remaining (option_map of_line fault) (with_levels now levels) (chars left.now)
-        ≡ behind_steps (given result) (closing (with_levels now levels)) }
+        ≡ after_steps (given result) (closing (with_levels now levels)) }
     ensures empty { GivesNoText result }
     ensures at { GivesAt now.now.offset result }
     ensures fault { OnSome fault (IsGivenFault result) }

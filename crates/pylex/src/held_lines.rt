@@ -6,7 +6,7 @@ ghost use Rattle.pysource.specs.Streams.{Buffered};
 ghost use Rattle.pysource.specs.Limits.{source_limit};
 ghost use Rattle.pysource.specs.declared.line_reader.Reach.{Reach};
 ghost use Rattle.std.specs.Str.{IsCharBoundary};
-ghost use Rattle.pylex.specs.Held.{Joins, LinesBehind};
+ghost use Rattle.pylex.specs.Held.{Joins, LinesAfter};
 ghost use Rattle.pylex.specs.Inner.Chunked.{AddsLine, AddsOn, HoldsOn, IsHeldLines, IsLonger};
 ghost use Rattle.pylex.specs.Inner.Chunked.{ReadsOn};
 
@@ -43,7 +43,7 @@ fn add_lines<R: ByteIn>(
     requires within { lines.old.count ≤ source_limit }
     requires from { IsCharBoundary (string_bytes text.old) from }
     ensures joins { (at : ℕ) (start : Buffered)
-        → LinesBehind literal at from start lines.old (string_bytes text.old)
+        → LinesAfter literal at from start lines.old (string_bytes text.old)
         → Joins literal at start lines.new (string_bytes text.new) }
     ensures adds { AddsOn (R.seen reader.old) (R.seen reader.new) lines.old lines.new
         (string_bytes text.old) (string_bytes text.new) }

@@ -308,14 +308,14 @@ impl LineLister {
             return Ok(Step::Entry(entry));
         }
         self.last = None;
-        // The answer of `next_behind` is a value of its own: it stands in memory, and so would that
+        // The answer of `next_after` is a value of its own: it stands in memory, and so would that
         // of the way below.
         if self.chunk.at == self.chunk.text.len() {
-            let step = self.next_behind(reader);
+            let step = self.next_after(reader);
             return step;
         }
         let Some(entry) = pass_on(&mut self.machine, &mut self.chunk, &mut self.last) else {
-            let step = self.next_behind(reader);
+            let step = self.next_after(reader);
             return step;
         };
         Ok(Step::Entry(entry))
@@ -323,7 +323,7 @@ impl LineLister {
 
     /// The next step, where the lines that are held may not decide it, or it is none of a lexeme.
     #[inline(never)]
-    fn next_behind<R: ByteIn>(&mut self, reader: &mut R) -> Result<Step, AllocError>
+    fn next_after<R: ByteIn>(&mut self, reader: &mut R) -> Result<Step, AllocError>
         requires reading { self.old.lines.reach ≡ Reach.Reading
             → (R.seen reader.old).failures < 2 ^ 64 - 1 }
         requires given { 0 < self.old.shown.given }

@@ -168,7 +168,7 @@ impl LineState {
                 } else {
                     Kind::Nl
                 };
-                return Emitted::Entry(entry_of(kind, None, self.now, self.now.behind(text)));
+                return Emitted::Entry(entry_of(kind, None, self.now, self.now.following(text)));
             }
             Class::Operator(operator) => {
                 if self.depth == 0 && operator.is_closer() {
@@ -292,7 +292,7 @@ impl LineState {
     pub(crate) fn pass_blanks(&mut self, text: &str)
         requires room { HasRoom self.old (length text.now) }
         requires counted { bytes_in (chars text.now) ≡ length text.now }
-        requires behind { self.old.margin ≡ false }
+        requires following { self.old.margin ≡ false }
         requires told { Tells Class.Blanks text.now }
         ensures { Passed self.old Class.Blanks (chars text.now) self.new }
     {
@@ -307,7 +307,7 @@ impl LineState {
     pub(crate) fn pass_join(&mut self, text: &str)
         requires room { HasRoom self.old (length text.now) }
         requires counted { bytes_in (chars text.now) ≡ length text.now }
-        requires behind { self.old.margin ≡ false }
+        requires following { self.old.margin ≡ false }
         requires told { Tells Class.Join text.now }
         ensures { Passed self.old Class.Join (chars text.now) self.new }
     {
@@ -334,7 +334,7 @@ impl LineState {
     fn pass_operator(&mut self, operator: Exact, text: &str) -> Option<Entry>
         requires room { HasRoom self.old (length text.now) }
         requires counted { bytes_in (chars text.now) ≡ length text.now }
-        requires behind { self.old.margin ≡ false }
+        requires following { self.old.margin ≡ false }
         requires told { Tells (Class.Operator operator) text.now }
         requires some { 0 < length text.now }
         ensures passed { IfSome result
@@ -361,7 +361,7 @@ impl LineState {
     fn pass_text(&mut self, class: Class, text: &str) -> Entry
         requires room { HasRoom self.old (length text.now) }
         requires counted { bytes_in (chars text.now) ≡ length text.now }
-        requires behind { self.old.margin ≡ false }
+        requires following { self.old.margin ≡ false }
         requires class { is_text class ≡ true }
         ensures passed { Passed self.old class (chars text.now) self.new }
         ensures entry { GivesEntry self.old class (chars text.now) result }
@@ -382,7 +382,7 @@ impl LineState {
     fn pass_line_end(&mut self, text: &str) -> Entry
         requires room { HasRoom self.old (length text.now) }
         requires counted { bytes_in (chars text.now) ≡ length text.now }
-        requires behind { self.old.margin ≡ false }
+        requires following { self.old.margin ≡ false }
         requires told { Tells Class.LineEnd text.now }
         requires some { 0 < length text.now }
         ensures passed { Passed self.old Class.LineEnd (chars text.now) self.new }
@@ -420,7 +420,7 @@ impl LineState {
     pub(crate) fn pass(&mut self, class: Class, text: &str) -> Option<Entry>
         requires room { HasRoom self.old (length text.now) }
         requires counted { bytes_in (chars text.now) ≡ length text.now }
-        requires behind { self.old.margin ≡ false }
+        requires following { self.old.margin ≡ false }
         requires told { Tells class text.now }
         requires some { 0 < length text.now }
         ensures passed { IfSome result (λ e. Passed self.old class (chars text.now) self.new) }
@@ -440,19 +440,19 @@ impl LineState {
 
     /// Directly after an entry with text: a line is yet to be measured only at its start.
     #[inline(always)]
-    pub(crate) fn begin_anew(&mut self, behind: LineState)
+    pub(crate) fn begin_anew(&mut self, following: LineState)
         ensures begun { (levels : List ℕ)
-            → with_levels self.new levels ≡ begun_anew (with_levels behind levels) }
-        ensures room { (n : ℕ) → HasRoom behind n → HasRoom self.new n }
+            → with_levels self.new levels ≡ begun_anew (with_levels following levels) }
+        ensures room { (n : ℕ) → HasRoom following n → HasRoom self.new n }
     {
-        self.now = behind.now;
-        self.line = behind.now;
-        self.depth = behind.depth;
+        self.now = following.now;
+        self.line = following.now;
+        self.depth = following.depth;
         self.width = 0;
-        self.margin = !behind.logical && behind.now.place.column == 0;
-        self.logical = behind.logical;
+        self.margin = !following.logical && following.now.place.column == 0;
+        self.logical = following.logical;
         self.joined = false;
-        self.lead = behind.lead;
+        self.lead = following.lead;
     }
 
     /// Whether a statement is open at the text's end: within brackets, or directly after a join.

@@ -8,12 +8,12 @@ ghost use Rattle.std.specs.Str.{chars};
 ghost use Rattle.pylex_listing.specs.Listing.{origin};
 ghost use Rattle.pylex_listing.specs.Machine.{first_state, mark_at};
 ghost use Rattle.pylex.specs.Standing.{resumed};
-ghost use Rattle.pylex.specs.LineState.{Stands, IsAscending, Peek, StopAhead, HasRoom, Behind};
+ghost use Rattle.pylex.specs.LineState.{Stands, IsAscending, Peek, StopAhead, HasRoom, Following};
 ghost use Rattle.pylex.specs.LineState.{with_levels};
 ghost use Rattle.pylex.specs.Listers.{shown_by, shown_at};
 ghost use Rattle.pylex.specs.Spots.{spot_cursor};
 ghost use Rattle.pylex.specs.Inner.MachineSteps.{FaultsFirst, HasPlace, IsSame, StepsOn, Advance};
-ghost use Rattle.pylex.specs.Inner.MachineSteps.{StaysBehind, LooksOn, shown_from};
+ghost use Rattle.pylex.specs.Inner.MachineSteps.{StaysAfter, LooksOn, shown_from};
 ghost use Rattle.pylex.specs.Inner.LineLayouts.{LaysOut, AwaitsLevel};
 ghost use Rattle.pylex.specs.Inner.LineStarting.{LineStart};
 
@@ -159,7 +159,7 @@ impl Machine {
     #[inline(always)]
     pub(crate) fn is_at_start(&self) -> bool
         ensures start { result ≡ true → self.entry.now.given ≡ 0 }
-        ensures behind { result ≡ false → 0 < self.entry.now.given }
+        ensures following { result ≡ false → 0 < self.entry.now.given }
     {
         self.given == 0
     }
@@ -290,7 +290,7 @@ impl Machine {
         ensures stands { Stands result.1 result.2.now }
         ensures room { (n : ℕ) → HasRoom self.entry.now.now (length text.now + n)
             → HasRoom result.1 (length result.2.now + n) }
-        ensures behind { Behind text.now result.2.now }
+        ensures following { Following text.now result.2.now }
         ensures stop { 0 < self.entry.now.tail → result.0 ≡ Peeked.Stop }
         ensures stay { 0 < self.entry.now.tail
             → (result.1 ≡ self.entry.now.now) × (result.2.now ≡ text.now) }
@@ -320,7 +320,7 @@ impl Machine {
         ensures went { IfOk result
             (λ step. Advance self.old peeked now left.now fault step self.new) }
         ensures fault { IfOk result (FaultsFirst peeked fault) }
-        ensures stays { IfOk result (StaysBehind self.old peeked self.new) }
+        ensures stays { IfOk result (StaysAfter self.old peeked self.new) }
         ensures same { OnErr result (IsSame self.old self.new) }
         ensures indent { OnErr result (peeked ≡ Peeked.Indent) }
     {

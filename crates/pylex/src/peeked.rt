@@ -3,7 +3,7 @@
 ghost use Rattle.std.specs.Prelude.{◌≡◌, ℕ, ◌+◌, ◌<◌, true, false, List, ◌∷◌, length, None, IfSome};
 ghost use Rattle.std.specs.Str.{chars};
 ghost use Rattle.pylex.specs.LineState.{is_level, IsTop, Stands, IsAscending, IsIndentation};
-ghost use Rattle.pylex.specs.LineState.{Settles, Comes, Peek, StopAhead, HasRoom, Behind};
+ghost use Rattle.pylex.specs.LineState.{Settles, Comes, Peek, StopAhead, HasRoom, Following};
 ghost use Rattle.pylex.specs.LineState.{NextEntry};
 
 use crate::entries::Emitted;
@@ -156,7 +156,7 @@ fn find<'a>(start: LineState, levels: &[usize], text: &'a str) -> (Peeked, LineS
     ensures stands { Stands result.1 result.2.now }
     ensures room { (n : ℕ) → HasRoom start (length text.now + n)
         → HasRoom result.1 (length result.2.now + n) }
-    ensures behind { Behind text.now result.2.now }
+    ensures following { Following text.now result.2.now }
 {
     let mut now = start;
     let mut rest = text;
@@ -193,7 +193,7 @@ fn find<'a>(start: LineState, levels: &[usize], text: &'a str) -> (Peeked, LineS
 #[inline(always)]
 fn next_entry<'a>(now: &mut LineState, text: &'a str) -> Option<(Entry, &'a str)>
     requires stands { Stands now.old text.now }
-    requires behind { now.old.margin ≡ false }
+    requires following { now.old.margin ≡ false }
     ensures { IfSome result (λ r. NextEntry now.old text.now r.0 now.new r.1.now) }
 {
     let mut rest = text;
@@ -268,7 +268,7 @@ pub(crate) fn peek<'a>(
     ensures stands { Stands result.1 result.2.now }
     ensures room { (n : ℕ) → HasRoom start (length text.now + n)
         → HasRoom result.1 (length result.2.now + n) }
-    ensures behind { Behind text.now result.2.now }
+    ensures following { Following text.now result.2.now }
     ensures stop { 0 < tail → result.0 ≡ Peeked.Stop }
     ensures stay { 0 < tail → (result.1 ≡ start) × (result.2.now ≡ text.now) }
 {

@@ -7,9 +7,9 @@
 //!
 //! ```
 //! let mut left = "x **= 1";
-//! while let Some((class, text, behind)) = pylex_lexeme::lexeme::cut(left) {
+//! while let Some((class, text, after)) = pylex_lexeme::lexeme::cut(left) {
 //!     // Name "x", Blanks " ", Operator(DoubleStarEqual) "**=", Blanks " ", Number "1"
-//!     left = behind;
+//!     left = after;
 //! }
 //! ```
 //!

@@ -187,7 +187,7 @@ longest_wins text = record {
   longest = λ x e. record {
     is_front = (drop (length x.text) text, lexeme_parts text x e);
     in_class = lexeme_class text x e;
-    none_longer = λ front behind p l. let s = lexeme_size text x e in no_longer text front behind p (omega arith);
+    none_longer = λ front following p l. let s = lexeme_size text x e in no_longer text front following p (omega arith);
   };
-  none = λ e front behind p. no_front text front behind e p;
+  none = λ e front following p. no_front text front following e p;
 }

@@ -21,11 +21,11 @@ use Rattle.pylex_listing.specs.Listing.{Source, entry_of, steps_of, line_end_of_
 use Rattle.pylex_listing.specs.Listing.{origin}
 use Rattle.pylex_listing.specs.declared.kind.Kind.TheVariants as kinds
 use Rattle.pylex_listing.specs.Machine.{State, layout_of, entry_by, gives, last_line_end, tail_of, stop_of, run, remaining, after}
-use Rattle.pylex_listing.specs.Machine.{behind_steps, first_state, still}
+use Rattle.pylex_listing.specs.Machine.{after_steps, first_state, still}
 use Rattle.pylex_listing.proofs.Law.{state_of, state_push, IsBalanced, balanced_push, place_after-append, bytes_in-append}
 use Rattle.pylex_listing.proofs.Leads.{hash_is}
 
--- The text of a line so far is behind the text of the lines before it.
+-- The text of a line so far is after the text of the lines before it.
 pub line_split : (before : List Lexeme) → text_before (before_line before) ++ text_before (line_so_far before) ≡ text_before before
 unfolding line_so_far
 line_split [] = refl
@@ -79,14 +79,14 @@ unfolding stop stop_of state_of place_after
 stop_is None before left = let l = layout_is before in let t = tail_is before in rw (l, t) refl
 stop_is (Some f) before left = let l = layout_is before in rw l refl
 
-pub up_to_end-append : (a b : List Step) → up_to_end (a ++ b) ≡ behind_steps a (up_to_end b)
+pub up_to_end-append : (a b : List Step) → up_to_end (a ++ b) ≡ after_steps a (up_to_end b)
 up_to_end-append [] b = refl
 up_to_end-append (steps.Entry e ∷ a) b = ap (λ ss. steps.Entry e ∷ ss) (up_to_end-append a b)
 up_to_end-append (steps.End ∷ a) b = refl
 up_to_end-append (steps.Fault f ∷ a) b = refl
 
 -- After a fault nothing counts.
-after_fault : (a : List Step) (f : ListingFault) (b c : List Step) → behind_steps (a ++ steps.Fault f ∷ []) b ≡ behind_steps
+after_fault : (a : List Step) (f : ListingFault) (b c : List Step) → after_steps (a ++ steps.Fault f ∷ []) b ≡ after_steps
     (a ++ steps.Fault f ∷ []) c
 after_fault [] f b c = refl
 after_fault (steps.Entry e ∷ a) f b c = ap (λ ss. steps.Entry e ∷ ss) (after_fault a f b c)
@@ -94,12 +94,12 @@ after_fault (steps.End ∷ a) f b c = refl
 after_fault (steps.Fault g ∷ a) f b c = refl
 
 unmatched : (s : State) (x : Lexeme) (b c : List Step) → (closes x && (s.depth == 0)) ≡ true
-    → behind_steps (gives s x) b ≡ behind_steps (gives s x) c
+    → after_steps (gives s x) b ≡ after_steps (gives s x) c
 unfolding gives entry_by
 unmatched s x b c e = by_class x.«class» x.text e
   where
     by_class : (k : Class) (t : List ℕ) → (closes (record { «class» = k; text = t }) && (s.depth == 0)) ≡ true
-        → behind_steps (gives s (record { «class» = k; text = t })) b ≡ behind_steps (gives s (record { «class» = k; text = t })) c
+        → after_steps (gives s (record { «class» = k; text = t })) b ≡ after_steps (gives s (record { «class» = k; text = t })) c
     by_class (Operator o) t e = rw e (after_fault (layout_of s) (record { code = errors.UnmatchedCloser; place = s.now.place }) b c)
     by_class Name t e = cc
     by_class Number t e = cc
@@ -120,11 +120,11 @@ pub law : (fault : Option ListingFault) (left : List ℕ) (before xs : List Lexe
 law fault left before [] b = ap up_to_end (stop_is fault before left)
 law fault left before (x ∷ xs) b =
     up_to_end-append (steps_of before x) (steps_from fault left (x ∷ before) xs)
-    ∙ ap (λ ss. behind_steps ss (up_to_end (steps_from fault left (x ∷ before) xs))) (steps_are before x)
+    ∙ ap (λ ss. after_steps ss (up_to_end (steps_from fault left (x ∷ before) xs))) (steps_are before x)
     ∙ ⊎_elim
     (λ (e : (closes x && (depth before == 0)) ≡ true). unmatched (state_of before) x _ _ (matched_depth before x true e))
     (λ (e : (closes x && (depth before == 0)) ≡ false).
-    ap (behind_steps (gives (state_of before) x))
+    ap (after_steps (gives (state_of before) x))
     (law fault left (x ∷ before) xs (balanced_push before x b e)
     ∙ ap (λ s. up_to_end (run fault left s xs)) (state_push before x b e)))
     (cases_Bool (closes x && (depth before == 0)))

@@ -42,19 +42,19 @@ HaveExact s = All (HasExact s.text) (entries_of (listing s))
 
 -- a lexeme is a front of the text that is in its class, and no longer front is in any class
 pub record IsLongest (text : List ℕ) (x : Lexeme) : Type 0 where
-  pub is_front : (behind : List ℕ) × (text ≡ x.text ++ behind)
+  pub is_front : (following : List ℕ) × (text ≡ x.text ++ following)
   pub in_class : class_in text x.text ≡ Some x.«class»
-  pub none_longer : (front behind : List ℕ) → text ≡ front ++ behind → length x.text < length front → class_in text front ≡ None
+  pub none_longer : (front following : List ℕ) → text ≡ front ++ following → length x.text < length front → class_in text front ≡ None
 
 -- where a lexeme stands, it is the longest; where none does, no front of the text is in any class
 pub record LongestWins (text : List ℕ) : Type 0 where
   pub longest : (x : Lexeme) → lexeme_at text ≡ Some x → IsLongest text x
-  pub none : lexeme_at text ≡ None → (front behind : List ℕ) → text ≡ front ++ behind → class_in text front ≡ None
+  pub none : lexeme_at text ≡ None → (front following : List ℕ) → text ≡ front ++ following → class_in text front ≡ None
 
 -- the lexemes stand one after another from the text's front on, and where they leave off none stands
 abbrev pub AreLexemes : List ℕ → List Lexeme → List ℕ → Type 0
 AreLexemes text [] left = (left ≡ text) × (lexeme_at text ≡ None)
-AreLexemes text (x ∷ xs) left = (behind : List ℕ) × (lexeme_at text ≡ Some x) × (text ≡ x.text ++ behind) × AreLexemes behind xs left
+AreLexemes text (x ∷ xs) left = (following : List ℕ) × (lexeme_at text ≡ Some x) × (text ≡ x.text ++ following) × AreLexemes following xs left
 
 -- the cut of a text is its lexemes, which joined are its front up to the stop
 pub record IsCut (text : List ℕ) : Type 0 where
@@ -107,16 +107,16 @@ IsGap text = (parts : List (List ℕ)) × All (λ t. IsTrue (are_blanks t || is_
 pub record StandsNext (offset : ℕ) (text : List ℕ) (e : Entry) : Type 0 where
   pub gap : List ℕ
   pub own : List ℕ
-  pub behind : List ℕ
+  pub following : List ℕ
   pub is_gap : IsGap gap
-  pub parts : text ≡ gap ++ (own ++ behind)
+  pub parts : text ≡ gap ++ (own ++ following)
   pub begins : e.«from» ≡ offset + bytes_in gap
   pub ends : e.to ≡ e.«from» + bytes_in own
 
 -- a text that begins at an offset is the entries' texts, and blanks and joins between them, up to what is left
 abbrev pub Covers : ℕ → List ℕ → List Entry → List ℕ → Type 0
 Covers offset text [] left = (gap : List ℕ) × IsGap gap × (text ≡ gap ++ left)
-Covers offset text (e ∷ es) left = (next : StandsNext offset text e) × Covers e.to next.behind es left
+Covers offset text (e ∷ es) left = (next : StandsNext offset text e) × Covers e.to next.following es left
 
 -- a listing's entries cover the text up to its end, or up to the fault
 pub record IsCovered (s : Source) : Type 0 where

@@ -114,8 +114,8 @@ layout_of s =
 abbrev pub line_end_kind_of : State → Kind
 line_end_kind_of s = if s.logical && (s.depth == 0) then kinds.Newline else kinds.Nl
 
-abbrev pub behind : Point → List ℕ → Point
-behind p t = record { place = further p.place (length t); offset = p.offset + bytes_in t }
+abbrev pub following : Point → List ℕ → Point
+following p t = record { place = further p.place (length t); offset = p.offset + bytes_in t }
 
 -- the entry of a lexeme, or its fault
 unfoldable pub entry_by : State → Lexeme → List Step
@@ -127,7 +127,7 @@ entry_by s x = elim x.«class» [
       (past s.now x.text) ∷ []
   | Comment ↦ step_of kinds.Comment None s.now (past s.now x.text) ∷ []
   | Blanks ↦ []
-  | LineEnd ↦ step_of (line_end_kind_of s) None s.now (behind s.now x.text) ∷ []
+  | LineEnd ↦ step_of (line_end_kind_of s) None s.now (following s.now x.text) ∷ []
   | Join ↦ []
 ]
 
@@ -182,8 +182,8 @@ first_state = record {
 }
 
 -- steps, and what follows them unless they end
-abbrev pub behind_steps : List Step → List Step → List Step
-behind_steps [] r = r
-behind_steps (steps.Entry e ∷ ss) r = steps.Entry e ∷ behind_steps ss r
-behind_steps (steps.End ∷ ss) r = steps.End ∷ []
-behind_steps (steps.Fault f ∷ ss) r = steps.Fault f ∷ []
+abbrev pub after_steps : List Step → List Step → List Step
+after_steps [] r = r
+after_steps (steps.Entry e ∷ ss) r = steps.Entry e ∷ after_steps ss r
+after_steps (steps.End ∷ ss) r = steps.End ∷ []
+after_steps (steps.Fault f ∷ ss) r = steps.Fault f ∷ []

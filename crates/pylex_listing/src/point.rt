@@ -3,7 +3,7 @@
 ghost use Rattle.std.specs.Prelude.{◌≡◌, ◌+◌, ◌^◌, ◌<◌, length};
 ghost use Rattle.std.specs.Str.{chars};
 ghost use Rattle.pylex_lexeme.specs.Chars.{bytes_in};
-ghost use Rattle.pylex_listing.specs.Machine.{behind, step_of, mark_at};
+ghost use Rattle.pylex_listing.specs.Machine.{following, step_of, mark_at};
 
 use crate::entries::{Entry, Step};
 use crate::kind::{Exact, Kind};
@@ -19,11 +19,11 @@ pub struct Point {
 
 impl Point {
     /// The point after a line end that begins here, still on its row.
-    pub fn behind(self, text: &str) -> Point
+    pub fn following(self, text: &str) -> Point
         requires column { self.place.column + length text.now < 2 ^ 63 }
         requires offset { self.offset + length text.now < 2 ^ 63 }
         requires counted { bytes_in (chars text.now) ≡ length text.now }
-        ensures { result ≡ behind self (chars text.now) }
+        ensures { result ≡ following self (chars text.now) }
     {
         Point {
             place: Place {

@@ -8,7 +8,7 @@ use Rattle.std.proofs.lemmas.List.{take-map, drop-map, map-append, length-map}
 use Rattle.pysource.specs.declared.places.Place.{Place}
 use Rattle.pylex_listing.specs.Listing.{Source}
 use Rattle.pytree_node.specs.declared.profiles.Profile.{Profile}
-use Rattle.pytoken.specs.Inner.Behind.{behind}
+use Rattle.pytoken.specs.Inner.Following.{following}
 use Rattle.pytoken.specs.Terminals.{Terminal}
 use Rattle.pytoken.specs.Tokens as Tokens
 use Rattle.pygrammar.specs.Blocks.{stands_in_match}
@@ -37,21 +37,21 @@ use Rattle.pyparse_block.proofs.Callers.ProgressLemmas.{starts_held, place_held,
 
 pub found_held : {R : Type 0} {after : R → Stretch → R} {count : R → ℕ} {profile : Profile} {s : Source} {k : ℕ} {r : LineReading}
     (forms : List Line) (inside : Bool) (ts : List Terminal) (level : ℕ) (read : FormRead) (old new : R)
-    → HoldsLine s k r → inside ≡ stands_in_match level (behind [] forms) → ts ≡ r.terminals → level ≡ r.level
+    → HoldsLine s k r → inside ≡ stands_in_match level (following [] forms) → ts ≡ r.terminals → level ≡ r.level
     → form_height (form_of read.form) ≤ 500
     → (d : FormAt profile inside ts (form_of read.form)) × (read.before ≡ count (afters after old (places_at d).before))
-    × (read.behind ≡ count (afters after old ((places_at d).before ++ (places_at d).behind)))
-    × Records after old ((places_at d).before ++ ((places_at d).behind ++ (places_at d).suite)) new
+    × (read.following ≡ count (afters after old ((places_at d).before ++ (places_at d).following)))
+    × Records after old ((places_at d).before ++ ((places_at d).following ++ (places_at d).suite)) new
     → IsFound after count profile s k forms r.level r.start read old new
 found_held {R} {after} {count} {profile} {s} {k} {r} forms inside ts level read old new held placed same at low found =
     let f = form_of read.form in
-    let earlier = behind [] forms in
+    let earlier = following [] forms in
     let here : inside ≡ stands_in_match held.line.level earlier = place_held earlier inside level held placed at in
     let parts : (d : FormAt profile inside ts f) × RunsOf after count (places_at d) read old new = (
       found.0,
       record {
         before = found.1;
-        behind = found.2;
+        following = found.2;
         records = found.3;
       },
     ) in
@@ -115,50 +115,50 @@ count_of ms ps old is =
 
 -- the runs of what was recorded of a line are its places
 abbrev pub RunsCut : List Span → FormPlaces → FormRead → List Span → Type 0
-RunsCut ms f read spans = Cut (map (span_of ms) f.before) (map (span_of ms) f.behind) (map (span_of ms) f.suite)
-    spans read.before read.behind
+RunsCut ms f read spans = Cut (map (span_of ms) f.before) (map (span_of ms) f.following) (map (span_of ms) f.suite)
+    spans read.before read.following
 
 pub runs_cut : (ms : List Span) (f : FormPlaces) (read : FormRead) (old new : Recording) (spans : List Span) → old ≡ recording ms [] []
     → RunsOf recorded (λ (w : Recording). length w.spans) f read old new → spans ≡ new.spans → RunsCut ms f read spans
 runs_cut ms f read old new spans is runs same =
-    let all = f.before ++ (f.behind ++ f.suite) in
+    let all = f.before ++ (f.following ++ f.suite) in
     let one = length-map f.before (span_of ms) in
-    let two = length-map f.behind (span_of ms) in
-    let both = length-append f.before f.behind in
-    let second : read.behind ≡ length (f.before ++ f.behind) = runs.behind ∙ count_of ms (f.before ++ f.behind) old is in
-    cut (map (span_of ms) f.before) (map (span_of ms) f.behind) (map (span_of ms) f.suite) spans read.before read.behind
+    let two = length-map f.following (span_of ms) in
+    let both = length-append f.before f.following in
+    let second : read.following ≡ length (f.before ++ f.following) = runs.following ∙ count_of ms (f.before ++ f.following) old is in
+    cut (map (span_of ms) f.before) (map (span_of ms) f.following) (map (span_of ms) f.suite) spans read.before read.following
     (same ∙ ap (λ (w : Recording). w.spans) runs.records.is ∙ ap (λ (w : Recording). (afters recorded w all).spans) is
-    ∙ ap (λ (w : Recording). w.spans) (recorded_all (recording ms [] []) all) ∙ map-append (span_of ms) f.before (f.behind ++ f.suite)
-    ∙ ap (λ (xs : List Span). map (span_of ms) f.before ++ xs) (map-append (span_of ms) f.behind f.suite))
+    ∙ ap (λ (w : Recording). w.spans) (recorded_all (recording ms [] []) all) ∙ map-append (span_of ms) f.before (f.following ++ f.suite)
+    ∙ ap (λ (xs : List Span). map (span_of ms) f.before ++ xs) (map-append (span_of ms) f.following f.suite))
     (runs.before ∙ count_of ms f.before old is ∙ sym one) (omega (arith, second, one, two, both))
 
 -- what the program lends of them
-pub line_given : (ms : List Span) (f : FormPlaces) (read : FormRead) (spans before behind suite : List given.Span) (given : LinePlaces)
+pub line_given : (ms : List Span) (f : FormPlaces) (read : FormRead) (spans before following suite : List given.Span) (given : LinePlaces)
     → RunsCut ms f read (map told spans)
     → (0 ≤ read.before → read.before ≤ length spans → map told before ≡ take (read.before - 0) (drop 0 (map told spans)))
-    → (read.before ≤ read.behind → read.behind ≤ length spans
-    → map told behind ≡ take (read.behind - read.before) (drop read.before (map told spans)))
-    → (read.behind ≤ length spans → length spans ≤ length spans
-    → map told suite ≡ take (length spans - read.behind) (drop read.behind (map told spans)))
-    → given ≡ record { whole = whole_of ms; before = map told before; behind = map told behind; suite = map told suite }
+    → (read.before ≤ read.following → read.following ≤ length spans
+    → map told following ≡ take (read.following - read.before) (drop read.before (map told spans)))
+    → (read.following ≤ length spans → length spans ≤ length spans
+    → map told suite ≡ take (length spans - read.following) (drop read.following (map told spans)))
+    → given ≡ record { whole = whole_of ms; before = map told before; following = map told following; suite = map told suite }
     → given ≡ line_of ms f
-line_given ms f read spans before behind suite given runs one two three is =
+line_given ms f read spans before following suite given runs one two three is =
     let size = length-map spans told in
     let low = runs.low in
     let high = runs.high in
     let before_is = one (omega arith) (omega (arith, low, high, size)) ∙ runs.first in
-    let behind_is = two low (omega (arith, high, size)) ∙ runs.second in
+    let after_is = two low (omega (arith, high, size)) ∙ runs.second in
     let suite_is : map told suite ≡ map (span_of ms) f.suite =
     three (omega (arith, high, size)) (omega arith)
-    ∙ ap (λ (k : ℕ). take (k - read.behind) (drop read.behind (map told spans))) (sym size) ∙ runs.third in
+    ∙ ap (λ (k : ℕ). take (k - read.following) (drop read.following (map told spans))) (sym size) ∙ runs.third in
     is
-    ∙ ap (λ (xs : List Span). record { whole = whole_of ms; before = xs; behind = map told behind; suite = map told suite }) before_is
-    ∙ ap (λ (xs : List Span). record { whole = whole_of ms; before = map (span_of ms) f.before; behind = xs; suite = map told suite })
-    behind_is
+    ∙ ap (λ (xs : List Span). record { whole = whole_of ms; before = xs; following = map told following; suite = map told suite }) before_is
+    ∙ ap (λ (xs : List Span). record { whole = whole_of ms; before = map (span_of ms) f.before; following = xs; suite = map told suite })
+    after_is
     ∙ ap (λ (xs : List Span). record {
       whole = whole_of ms;
       before = map (span_of ms) f.before;
-      behind = map (span_of ms) f.behind;
+      following = map (span_of ms) f.following;
       suite = xs;
     }) suite_is
 
@@ -185,7 +185,7 @@ told_part xs ys n m is = ap (map told) is ∙ sym (take-map told n (drop m xs)) 
 -- ---- One line more.
 
 grown : {profile : Profile} {earlier : List Line} {xs : List Tokens.Line} {ys : List Line} (spans : Tokens.Line → List Span)
-    (p : Formed profile earlier xs ys) (x : Tokens.Line) (f : Form) (h : HasForm profile (stands_in_match x.level (behind earlier ys)) x f)
+    (p : Formed profile earlier xs ys) (x : Tokens.Line) (f : Form) (h : HasForm profile (stands_in_match x.level (following earlier ys)) x f)
     → PlacedLines profile earlier spans (xs ++ x ∷ []) (ys ++ line x.level f ∷ [])
     (formed_places spans p ++ line_of (spans x) (places_at h.is) ∷ [])
 grown spans formed_end x f h = record { formed = formed_line h formed_end; are = refl }
@@ -194,7 +194,7 @@ grown spans (formed_line {x = y} g r) x f h =
     record { formed = formed_line g more.formed; are = ap (λ (zs : List LinePlaces). line_of (spans y) (places_at g.is) ∷ zs) more.are }
 
 pub placed_next : {profile : Profile} {s : Source} {k : ℕ} {forms : List Line} {l : Line} {p : Place} {zs : List LinePlaces}
-    (comes : Comes profile s k (behind [] forms) l p) → PlacedLines profile [] (line_spans s.text) (first_lines s k) forms zs
+    (comes : Comes profile s k (following [] forms) l p) → PlacedLines profile [] (line_spans s.text) (first_lines s k) forms zs
     → PlacedLines profile [] (line_spans s.text) (first_lines s (k + 1)) (forms ++ l ∷ [])
     (zs ++ line_of (line_spans s.text comes.line) (places_at comes.form.is) ∷ [])
 placed_next {profile} {s} {k} {forms} {l} {p} {zs} comes was =

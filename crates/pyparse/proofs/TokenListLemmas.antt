@@ -23,7 +23,7 @@ first_at (y ∷ ys) zero d r w n t = rw t refl
 first_at (y ∷ ys) (suc i) d r w n t = let o = or_none (token_refusal y) (first_refusal (take i ys)) n in
     rw (o.0) (first_at ys i d r (omega (arith, w)) o.1 t)
 
--- a fault of a token behind sound ones is the first
+-- a fault of a token after sound ones is the first
 pub told_first : (xs : List Token) (i : ℕ) (d : Token) (f : ParseFault) → i < length xs → first_refusal (take i xs) ≡ None
     → Tells (token_refusal (get_or xs i d)) f → Tells (first_refusal xs) f
 told_first xs i d (Refused r) w n t = first_at xs i d r w n t

@@ -127,14 +127,14 @@ impl PlacedProgress {
         let FormRead {
             form,
             before,
-            behind,
+            following,
         } = read;
         let spans = recorder.spans();
         let given = LineSpans {
             whole: whole_of(marks),
             before: run_of(spans, 0, before),
-            behind: run_of(spans, before, behind),
-            suite: run_of(spans, behind, spans.len()),
+            following: run_of(spans, before, following),
+            suite: run_of(spans, following, spans.len()),
         };
         let level = lines.level();
         self.stack.step(alloc, level, &form, &given)?;

@@ -6,7 +6,7 @@ ghost use Rattle.std.specs.Prelude.{IfOk, IfErr, OnOk};
 ghost use Rattle.pylex_listing.specs.Listing.{Source, in_characters};
 ghost use Rattle.pytree_node.specs.declared.profiles.Profile.{Profile};
 ghost use Rattle.pytree_node.specs.TreeOf.{module_of};
-ghost use Rattle.pytoken.specs.Inner.Behind.{behind};
+ghost use Rattle.pytoken.specs.Inner.Following.{following};
 ghost use Rattle.pytoken.specs.Tokens as tokens;
 ghost use Rattle.pygrammar.specs.Blocks.{Block, is_match, kind_of, stands_in_match};
 ghost use Rattle.pygrammar.specs.Forms.{is_whole};
@@ -133,7 +133,7 @@ impl Progress {
         ensures { (inside : Bool) (k : ℕ) (forms : List Line)
             → HoldsLine (in_characters lines.now.source) k lines.now
             → Holds profile (in_characters lines.now.source) k forms self.old
-            → inside ≡ stands_in_match lines.now.level (behind [] forms)
+            → inside ≡ stands_in_match lines.now.level (following [] forms)
             → Refused stop profile inside lines.now.terminals
             → OnOk result ((is_unread self.new.known ≡ true)
             × Holds profile (in_characters lines.now.source) (k + 1) forms self.new) }
@@ -154,7 +154,7 @@ impl Progress {
     ) -> Result<(), AllocError>
         ensures { (profile : Profile) (s : Source) (k : ℕ) (forms : List Line)
             → Holds profile s k forms self.old
-            → Comes profile s k (behind [] forms) (line level (form_of form)) start
+            → Comes profile s k (following [] forms) (line level (form_of form)) start
             → OnOk result (Holds profile s (k + 1)
             (forms ++ line level (form_of form) ∷ []) self.new) }
     {

@@ -11,7 +11,7 @@ use Rattle.pygrammar.specs.Reading.{place_header, Waiting, State, state, joined,
 use Rattle.pygrammar.proofs.Callers.Blocks.{is_less, not_less, settle_here}
 use Rattle.pyparse_block.specs.declared.stack.Waiting as given_waiting
 use Rattle.pyparse_block.specs.declared.stack.Stack.{Stack}
-use Rattle.pyparse_block.specs.Inner.Levels.{behind, ended, popped}
+use Rattle.pyparse_block.specs.Inner.Levels.{following, ended, popped}
 use Rattle.pyparse_block.specs.Inner.Meeting.{closed, is_matching, marked, met}
 use Rattle.pyparse_block.specs.Values.{waiting_of, below_of, state_of}
 use Rattle.pyparse_block.proofs.AnswerLemmas.{tells_then}
@@ -34,7 +34,7 @@ ended_fresh s n f =
     elim s.below as (λ b. 0 < length b → ◌≡◌ {A = Answer State} (elim b [ [] ↦ Fine s | w ∷ below ↦ popped s w below ])
     (Faulty ExpectedIndent)) [
       | [] ↦ λ n. absurd (omega arith)
-      | w ∷ below ↦ λ n. ap (λ b. cond b (Faulty ExpectedIndent) (behind below (above w s.done s.group))) f
+      | w ∷ below ↦ λ n. ap (λ b. cond b (Faulty ExpectedIndent) (following below (above w s.done s.group))) f
     ] n
 
 -- the level below, with the block that it waited for
@@ -42,27 +42,27 @@ abbrev grown : Waiting → List Waiting → List Stmt → State
 grown w below body = state (joined w.done w.group w.header body).done (joined w.done w.group w.header body).group false below
 
 -- a level that isn't the block of a `match`
-behind_closed : (w : Waiting) (below : List Waiting) (d : List Stmt) (g : Group) → is_matching g ≡ false →
-    behind below (above w d g) ≡ then (closed d g) (λ body. Fine (grown w below body))
-behind_closed w below d (Matching cs) h = absurd (cc)
-behind_closed w below d g h = by_closes (closes g)
+after_closed : (w : Waiting) (below : List Waiting) (d : List Stmt) (g : Group) → is_matching g ≡ false →
+    following below (above w d g) ≡ then (closed d g) (λ body. Fine (grown w below body))
+after_closed w below d (Matching cs) h = absurd (cc)
+after_closed w below d g h = by_closes (closes g)
   where
     by_closes : (o : Option (List Stmt)) →
-        behind below (elim o [ None ↦ None | Some ss ↦ Some (joined w.done w.group w.header (d ++ ss)) ])
+        following below (elim o [ None ↦ None | Some ss ↦ Some (joined w.done w.group w.header (d ++ ss)) ])
         ≡ then {A = List Stmt} (elim o [ None ↦ Faulty MisplacedClause | Some ss ↦ Fine (d ++ ss) ]) (λ body. Fine (grown w below body))
     by_closes None = refl
     by_closes (Some ss) = refl
 
 ended_whole : (s : State) (w : Waiting) (below : List Waiting) → s.below ≡ w ∷ below → s.fresh ≡ false
-    → ended s ≡ behind below (above w s.done s.group)
-ended_whole s w below b e = ended_popped s w below b ∙ ap (λ b. cond b (Faulty ExpectedIndent) (behind below (above w s.done s.group))) e
+    → ended s ≡ following below (above w s.done s.group)
+ended_whole s w below b e = ended_popped s w below b ∙ ap (λ b. cond b (Faulty ExpectedIndent) (following below (above w s.done s.group))) e
 
 pub ended_refused : (s : State) (f : Fault) → 0 < length s.below → s.fresh ≡ false → is_matching s.group ≡ false
     → closed s.done s.group ≡ Faulty f → ended s ≡ Faulty f
 ended_refused s f n e m c =
     elim s.below as (λ b. s.below ≡ b → 0 < length b → ended s ≡ Faulty f) [
       | [] ↦ λ i n. absurd (omega arith)
-      | w ∷ below ↦ λ i n. ended_whole s w below i e ∙ behind_closed w below s.done s.group m
+      | w ∷ below ↦ λ i n. ended_whole s w below i e ∙ after_closed w below s.done s.group m
           ∙ ap (λ a. then a (λ body. Fine (grown w below body))) c
     ] refl n
 
@@ -70,7 +70,7 @@ ended_fine : (s : State) (w : Waiting) (below : List Waiting) (body : List Stmt)
     → is_matching s.group ≡ false →
     closed s.done s.group ≡ Fine body → ended s ≡ Fine (grown w below body)
 ended_fine s w below body b e m c =
-    ended_whole s w below b e ∙ behind_closed w below s.done s.group m ∙ ap (λ a. then a (λ body. Fine (grown w below body))) c
+    ended_whole s w below b e ∙ after_closed w below s.done s.group m ∙ ap (λ a. then a (λ body. Fine (grown w below body))) c
 
 -- the level below as the program has it
 pub level_ended : (s : State) (ws lower : List given_waiting.Waiting) (w : given_waiting.Waiting) (body done : List Stmt) (group : Group) →
@@ -86,14 +86,14 @@ level_ended s ws lower w body done group b v e m c d g =
 pub ended_match : (s : State) (w : Waiting) (below : List Waiting) (cs : List Case) → s.below ≡ w ∷ below → s.fresh ≡ false
     → s.group ≡ Matching cs →
     ended s ≡ Fine (state (w.done ++ matched w.header cs) Idle false below)
-ended_match s w below cs b e g = ended_whole s w below b e ∙ ap (λ g. behind below (above w s.done g)) g
+ended_match s w below cs b e g = ended_whole s w below b e ∙ ap (λ g. following below (above w s.done g)) g
 
 -- one level, and then the others
-settle_behind : (l : ℕ) (below : List Waiting) (o : Option PartialBlock) →
+settle_after : (l : ℕ) (below : List Waiting) (o : Option PartialBlock) →
     ◌≡◌ {A = Answer State} (elim o [ None ↦ Faulty MisplacedClause | Some p ↦ settle_in l p.done p.group false below ])
-    (then (behind below o) (settle l))
-settle_behind l below None = refl
-settle_behind l below (Some p) = refl
+    (then (following below o) (settle l))
+settle_after l below None = refl
+settle_after l below (Some p) = refl
 
 settle_popped : (l : ℕ) (d : List Stmt) (g : Group) (f : Bool) (w : Waiting) (below : List Waiting) → l < length (w ∷ below) →
     settle_in l d g f (w ∷ below) ≡ then (popped (state d g f (w ∷ below)) w below) (settle l)
@@ -113,7 +113,7 @@ settle_popped l d g f w below h =
         ]))
         (then (popped (state d g f (w ∷ below)) w below) (settle l))
     by_fresh true = refl
-    by_fresh false = settle_behind l below (above w d g)
+    by_fresh false = settle_after l below (above w d g)
 
 pub settle_ended : (l : ℕ) (s : State) → l < length s.below → settle l s ≡ then (ended s) (settle l)
 settle_ended l s h =
@@ -126,7 +126,7 @@ settle_ended l s h =
 pub settle_stays : (l : ℕ) (s : State) → length s.below ≤ l → settle l s ≡ Fine s
 settle_stays l s h = settle_here l s.done s.group s.fresh s.below h
 
--- behind a level that ended the others are left
+-- after a level that ended the others are left
 pub settle_more : (l : ℕ) (s t : Stack) (whole : Answer State) → l < length s.below.items → ended (state_of s) ≡ Fine (state_of t)
     → settle l (state_of s) ≡ whole →
     settle l (state_of t) ≡ whole

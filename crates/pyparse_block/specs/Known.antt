@@ -1,9 +1,9 @@
--- What is known of a source behind some of its lines.
+-- What is known of a source after some of its lines.
 use Rattle.std.specs.Prelude.{◌≡◌, ℕ, ◌+◌, Bool, true, false, List, [], ◌∷◌, ◌++◌, length, take, slice_get, Some, None}
 use Rattle.pysource.specs.declared.places.Place.{Place}
 use Rattle.pylex_listing.specs.Listing.{Source}
 use Rattle.pytree_node.specs.declared.profiles.Profile.{Profile}
-use Rattle.pytoken.specs.Inner.Behind.{behind}
+use Rattle.pytoken.specs.Inner.Following.{following}
 use Rattle.pytoken.specs.Tokens.{lines}
 use Rattle.pytoken.specs.Tokens as Tokens
 use Rattle.pytoken.specs.Refusals.{refusal}
@@ -82,7 +82,7 @@ is_unread _ = false
 
 -- ---- The next line, and the end.
 
--- behind these lines, the nearest first, the line of this number is this one, by its form, and starts here
+-- after these lines, the nearest first, the line of this number is this one, by its form, and starts here
 pub record Comes (profile : Profile) (s : Source) (k : ℕ) (earlier : List Line) (l : Line) (p : Place) : Type 0 where
   pub line : Tokens.Line
   pub stands : slice_get (lines s) k ≡ Some line
@@ -105,7 +105,7 @@ abbrev pub Meets : Profile → Source → ℕ → List Line → Line → Known �
 Meets profile s k forms l known true = AwaitsBlocks profile s k forms l known
 Meets profile s k forms l known false = IsKnown profile s (k + 1) (forms ++ l ∷ []) known
 
--- behind so many lines a source ends, with ENDMARKER here, and its tokens are not refused
+-- after so many lines a source ends, with ENDMARKER here, and its tokens are not refused
 pub record Closes (profile : Profile) (s : Source) (k : ℕ) (p : Place) : Type 0 where
   pub all : k ≡ length (lines s)
   pub clear : refusal profile.extent s ≡ None

@@ -4,7 +4,7 @@ ghost use Rattle.std.specs.Prelude.{◌≡◌, ◌+◌, ◌++◌, ◌∷◌, [],
 ghost use Rattle.pylex_listing.specs.Listing.{Source};
 ghost use Rattle.pytree_node.specs.declared.profiles.Profile.{Profile};
 ghost use Rattle.pytree_node.specs.TreeOf.{module_of};
-ghost use Rattle.pytoken.specs.Inner.Behind.{behind};
+ghost use Rattle.pytoken.specs.Inner.Following.{following};
 ghost use Rattle.pygrammar.specs.Blocks.{Block};
 ghost use Rattle.pygrammar.specs.Lines.{Line, line};
 ghost use Rattle.pygrammar.specs.Refusals.{Accepted};
@@ -169,7 +169,7 @@ impl Known {
     ) -> Result<bool, AllocError>
         ensures known { (profile : Profile) (s : Source) (k : ℕ) (forms : List Line)
             → IsKnown profile s k forms self.old
-            → Comes profile s k (behind [] forms) (line level (form_of form.now)) start
+            → Comes profile s k (following [] forms) (line level (form_of form.now)) start
             → IfOk result (Meets profile s k forms (line level (form_of form.now)) self.new) }
         ensures sound { IfOk result (λ grows. grows ≡ true → is_sound self.new ≡ true) }
     {
@@ -209,7 +209,7 @@ impl Known {
         requires { is_sound self.old ≡ true }
         ensures { (profile : Profile) (s : Source) (k : ℕ) (forms : List Line)
             → AwaitsBlocks profile s k forms (line level (form_of form)) self.old
-            → Comes profile s k (behind [] forms) (line level (form_of form)) start
+            → Comes profile s k (following [] forms) (line level (form_of form)) start
             → OnOk result (IsKnown profile s (k + 1)
             (forms ++ line level (form_of form) ∷ []) self.new) }
     {
@@ -243,7 +243,7 @@ impl Known {
     ) -> Result<(), AllocError>
         ensures { (profile : Profile) (s : Source) (k : ℕ) (forms : List Line)
             → IsKnown profile s k forms self.old
-            → Comes profile s k (behind [] forms) (line level (form_of form)) start
+            → Comes profile s k (following [] forms) (line level (form_of form)) start
             → OnOk result (IsKnown profile s (k + 1)
             (forms ++ line level (form_of form) ∷ []) self.new) }
     {

@@ -5,7 +5,7 @@
 ghost use Rattle.std.specs.Prelude.{◌≡◌, ◌∷◌, ◌≤◌, [], List, ℕ, OnOk, reverse};
 ghost use Rattle.pygrammar.specs.Lines.{Form, Line, line};
 ghost use Rattle.pygrammar.specs.Blocks.{is_match, kind_of, stands_in_match};
-ghost use Rattle.pyparse_block.specs.LastLines.{HoldsLastLines, stands_behind};
+ghost use Rattle.pyparse_block.specs.LastLines.{HoldsLastLines, stands_following};
 
 use std::alloc::{AllocError, Global};
 
@@ -21,7 +21,7 @@ pub(crate) struct Last {
 #[tactic(auto, using(crate::proofs::LastLineLemmas::last_lines))]
 fn drop_from(lasts: &mut Vec<Last>, level: usize)
     ensures { (l : ℕ) → l ≤ level
-        → stands_behind l (reverse lasts.new.items) ≡ stands_behind l (reverse lasts.old.items) }
+        → stands_following l (reverse lasts.new.items) ≡ stands_following l (reverse lasts.old.items) }
 {
     while let Some(last) = lasts.last() {
         if last.level < level {

@@ -211,7 +211,7 @@ fn kind_at<'a>(tokens: &[Terminal<'a>], at: usize) -> ArgumentForm<'a>
     }
 }
 
-/// Records an argument with a name, or of `**`, behind the nodes in it, which stand behind `from`
+/// Records an argument with a name, or of `**`, after the nodes in it, which stand after `from`
 /// others, and sets all of it aside.
 fn record_keyword<R: Recorder>(
     at: usize,
@@ -230,8 +230,8 @@ fn record_keyword<R: Recorder>(
     Ok(())
 }
 
-/// Records an argument that stands at the terminals from `at` up to `next`, behind the nodes in it,
-/// which stand behind `from` others. One with a name is set aside.
+/// Records an argument that stands at the terminals from `at` up to `next`, after the nodes in it,
+/// which stand after `from` others. One with a name is set aside.
 #[inline(always)]
 fn record_argument<R: Recorder>(
     kind: ArgumentForm,
@@ -374,7 +374,7 @@ pub(crate) fn arguments<R: Recorder>(
 }
 
 /// The call of these arguments, after which its bracket has to stand. Those with a name are set
-/// aside, behind `aside` other nodes.
+/// aside, after `aside` other nodes.
 #[inline(always)]
 fn finish<R: Recorder>(
     alloc: Global,

@@ -256,7 +256,7 @@ fn dict_comp<R: Recorder>(
     )
 }
 
-/// A dictionary, after its first pair, whose value is set aside: the values come behind all keys.
+/// A dictionary, after its first pair, whose value is set aside: the values come after all keys.
 /// `kept` others were set aside before it.
 #[cycle(reading)]
 fn dict_from<R: Recorder>(

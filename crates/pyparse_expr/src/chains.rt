@@ -71,7 +71,7 @@ pub(crate) fn chain<R: Recorder>(
     recorder: &mut R,
 ) -> Result<Read, Stop>
     requires within { left.next < length tokens.now }
-    requires sign { Some (precedence.Joins o) ≡ first_is precedence.behind
+    requires sign { Some (precedence.Joins o) ≡ first_is precedence.following
         (seen tokens.now left.next) }
     requires open { IsOpen depth }
     ensures answered { Answered tokens.now depth.room (left.next + 1)
@@ -187,7 +187,7 @@ pub(crate) fn compare<R: Recorder>(
     recorder: &mut R,
 ) -> Result<Read, Stop>
     requires within { left.next < length tokens.now }
-    requires sign { Some precedence.Compares ≡ first_is precedence.behind
+    requires sign { Some precedence.Compares ≡ first_is precedence.following
         (seen tokens.now left.next) }
     requires open { IsOpen depth }
     ensures answered { Answered tokens.now depth.room (left.next + 1)

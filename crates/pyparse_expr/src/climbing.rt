@@ -163,7 +163,7 @@ fn operation<R: Recorder>(
     requires within { left.next < length tokens.now }
     requires open { IsOpen depth }
     requires infix { IsInfix (infix_value o) }
-    requires stands { Some (infix_value o) ≡ first_is precedence.behind
+    requires stands { Some (infix_value o) ≡ first_is precedence.following
         (seen tokens.now left.next) }
     ensures answered { Answered tokens.now depth.room (left.next + 1)
         (cap depth.room

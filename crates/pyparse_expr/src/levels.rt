@@ -254,7 +254,7 @@ pub(crate) fn read_expression<R: Recorder>(
 }
 
 /// The rest of a conditional, from its `if` on. The nodes of the body are those recorded after the
-/// first `before`; they belong behind the test's.
+/// first `before`; they belong after the test's.
 #[cycle(reading)]
 #[inline(never)]
 fn if_else_step<R: Recorder>(

@@ -18,7 +18,7 @@ ghost use Rattle.pyparse_nodes.specs.FormalStates.{entry_of, state_of};
 ghost use Rattle.pyparse_nodes.specs.Formals as formals;
 ghost use Rattle.pyparse_expr.specs.Inner.Found.{OptionalAt};
 ghost use Rattle.pyparse_expr.specs.Inner.PlacedSignatures.{DefaultsBack, ParameterPlaced};
-ghost use Rattle.pyparse_expr.specs.Inner.PlacedSignatures.{SignaturePlaced, defaults_behind};
+ghost use Rattle.pyparse_expr.specs.Inner.PlacedSignatures.{SignaturePlaced, defaults_after};
 ghost use Rattle.pyparse_expr.specs.Inner.Readings.{inner_reads};
 ghost use Rattle.pyparse_reads.specs.Readings.{IsOpen};
 ghost use Rattle.pyparse_expr.specs.Inner.Signatures.{IsTall, MakesLambda, ParameterAnswered, SignatureAt};
@@ -353,7 +353,7 @@ fn collected_parameter<R: Recorder>(
 }
 
 /// A parameter, or a sign between parameters. In front of a `**` the defaults are taken back that are
-/// set aside behind `count` other nodes: those of keyword-only parameters.
+/// set aside after `count` other nodes: those of keyword-only parameters.
 #[cycle(reading)]
 #[inline(never)]
 fn read_parameter<R: Recorder>(
@@ -423,10 +423,10 @@ fn read_parameter<R: Recorder>(
     Err(Stop::NoForm)
 }
 
-/// How many nodes are set aside up to the last default in front of a star, behind a parameter more.
+/// How many nodes are set aside up to the last default in front of a star, after a parameter more.
 #[inline(always)]
 fn count_defaults<R: Recorder>(stage: Stage, count: usize, recorder: &R) -> usize
-    ensures { result ≡ defaults_behind stage count (R.aside_count recorder.now) }
+    ensures { result ≡ defaults_after stage count (R.aside_count recorder.now) }
 {
     match stage {
         Stage::Open => recorder.aside(),
@@ -435,8 +435,8 @@ fn count_defaults<R: Recorder>(stage: Stage, count: usize, recorder: &R) -> usiz
     }
 }
 
-/// Takes the defaults of keyword-only parameters back, which are set aside behind `count` nodes, and
-/// then those in front of the star, which are behind `aside`.
+/// Takes the defaults of keyword-only parameters back, which are set aside after `count` nodes, and
+/// then those in front of the star, which are after `aside`.
 #[inline(always)]
 fn take_defaults_back<R: Recorder>(count: usize, aside: usize, recorder: &mut R) -> Result<(), Stop>
     ensures { MatchResult result

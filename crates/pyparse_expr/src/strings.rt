@@ -43,39 +43,39 @@ use pytoken::{Literal, LiteralText, Terminal};
 use pytree_node::{Conversion, Points};
 use std::alloc::Global;
 
-/// Where a row of literals and f-strings begins, and the place behind it, as the recorder has it.
+/// Where a row of literals and f-strings begins, and the place after it, as the recorder has it.
 #[derive(Clone, Copy)]
 pub(crate) struct Row {
     pub first: usize,
-    pub behind: usize,
+    pub following: usize,
 }
 
-/// Records the text behind the last field, if it isn't empty.
+/// Records the text after the last field, if it isn't empty.
 #[inline(always)]
 fn record_text<R: Recorder>(values: &JoinedValues, row: Row, recorder: &mut R) -> Result<(), Stop>
     ensures { MatchResult result
-        (λ _. (whole : Stretch) → Alike R.after (stretch row.first row.behind) whole
+        (λ _. (whole : Stretch) → Alike R.after (stretch row.first row.following) whole
         → Records R.after recorder.old (text_places whole values.now.text) recorder.new)
         (λ s. s ≡ Stop.Memory) }
 {
     if values.text.as_slice().is_empty() {
         return Ok(());
     }
-    recorder.node(row.first, row.behind)?;
+    recorder.node(row.first, row.following)?;
     Ok(())
 }
 
-/// Records the text behind the last field, and the JoinedStr.
+/// Records the text after the last field, and the JoinedStr.
 #[inline(always)]
 fn record_joined<R: Recorder>(values: &JoinedValues, row: Row, recorder: &mut R) -> Result<(), Stop>
     ensures { MatchResult result
-        (λ _. (whole : Stretch) → Alike R.after (stretch row.first row.behind) whole
+        (λ _. (whole : Stretch) → Alike R.after (stretch row.first row.following) whole
         → Records R.after recorder.old (text_places whole values.now.text ++ (whole ∷ []))
         recorder.new)
         (λ s. s ≡ Stop.Memory) }
 {
     record_text(values, row, recorder)?;
-    recorder.node(row.first, row.behind)?;
+    recorder.node(row.first, row.following)?;
     Ok(())
 }
 
@@ -178,7 +178,7 @@ pub(crate) fn read_literals<R: Recorder>(
     }
 }
 
-/// Literals and f-strings, after the begin of the first f-string and behind the texts in front
+/// Literals and f-strings, after the begin of the first f-string and after the texts in front
 /// of it.
 #[cycle(reading)]
 pub(crate) fn read_joined<R: Recorder>(
@@ -202,7 +202,7 @@ pub(crate) fn read_joined<R: Recorder>(
 {
     let row = Row {
         first: from,
-        behind: recorder.row_end(tokens, before.next),
+        following: recorder.row_end(tokens, before.next),
     };
     let first = read_formatted(alloc, tokens, unicode, before, row, depth, recorder)?;
     let whole = more_literals(alloc, tokens, unicode, first, row, depth, recorder)?;
@@ -210,7 +210,7 @@ pub(crate) fn read_joined<R: Recorder>(
     make_joined(alloc, whole, unicode)
 }
 
-/// Literals and f-strings, behind others.
+/// Literals and f-strings, after others.
 #[cycle(reading)]
 fn more_literals<R: Recorder>(
     alloc: Global,
@@ -228,7 +228,7 @@ fn more_literals<R: Recorder>(
         → PartsAnswered unicode tokens.now before.next
         (reader.literals_loop (inner_reads depth) unicode (length (seen tokens.now before.next)) acc
         (seen tokens.now before.next)) result }
-    ensures placed { (whole : Stretch) → Alike R.after (stretch row.first row.behind) whole
+    ensures placed { (whole : Stretch) → Alike R.after (stretch row.first row.following) whole
         → IfOk result
         (λ r. PartsPlaced R.after (PlacedLiterals unicode whole) tokens.now unicode whole before r
         recorder.old recorder.new) }
@@ -257,7 +257,7 @@ fn more_literals<R: Recorder>(
     }
 }
 
-/// An f-string after its begin, behind other parts.
+/// An f-string after its begin, after other parts.
 #[cycle(reading)]
 fn read_formatted<R: Recorder>(
     alloc: Global,
@@ -275,7 +275,7 @@ fn read_formatted<R: Recorder>(
         → PartsAnswered unicode tokens.now before.next
         (reader.formatted_step (inner_reads depth) unicode acc (seen tokens.now before.next))
         result }
-    ensures placed { (whole : Stretch) → Alike R.after (stretch row.first row.behind) whole
+    ensures placed { (whole : Stretch) → Alike R.after (stretch row.first row.following) whole
         → IfOk result
         (λ r. FormattedPlaced R.after tokens.now unicode whole before r recorder.old
         recorder.new) }
@@ -288,7 +288,7 @@ fn read_formatted<R: Recorder>(
     Ok(moved(values, next))
 }
 
-/// Texts and fields, behind other parts. Any number that is enough ends the reader of the
+/// Texts and fields, after other parts. Any number that is enough ends the reader of the
 /// definition.
 #[cycle(reading)]
 fn read_parts<R: Recorder>(
@@ -308,7 +308,7 @@ fn read_parts<R: Recorder>(
         → PartsAnswered unicode tokens.now before.next
         (reader.parts_loop (inner_reads depth) unicode most acc (seen tokens.now before.next))
         result }
-    ensures placed { (whole : Stretch) → Alike R.after (stretch row.first row.behind) whole
+    ensures placed { (whole : Stretch) → Alike R.after (stretch row.first row.following) whole
         → IfOk result
         (λ r. PartsPlaced R.after (PlacedFormatted unicode whole) tokens.now unicode whole before r
         recorder.old recorder.new) }
@@ -341,7 +341,7 @@ fn with_part<R: Recorder>(
         result }
     ensures placed { points_of (Some part.entry) ≡ first_is text_in (seen tokens.now before.next)
         → conversion_of (Some part.entry) ≡ first_is conversion_in (seen tokens.now before.next)
-        → (whole : Stretch) → Alike R.after (stretch row.first row.behind) whole
+        → (whole : Stretch) → Alike R.after (stretch row.first row.following) whole
         → IfOk result
         (λ r. PartsPlaced R.after (PlacedFormatted unicode whole) tokens.now unicode whole before r
         recorder.old recorder.new) }
@@ -357,7 +357,7 @@ fn with_part<R: Recorder>(
             let field = read_field(
                 alloc, tokens, unicode, conversion, next, row, depth, recorder,
             )?;
-            recorder.node(row.first, row.behind)?;
+            recorder.node(row.first, row.following)?;
             with_field(alloc, before, unicode, field)
         }
     }
@@ -384,7 +384,7 @@ fn read_field<R: Recorder>(
         (λ i. reader.parts_loop (inner_reads depth) unicode most [] i) unicode conversion
         (seen tokens.now at))
         (λ r. tree_of r.expr.value) (λ r. r.next) result }
-    ensures placed { (whole : Stretch) → Alike R.after (stretch row.first row.behind) whole
+    ensures placed { (whole : Stretch) → Alike R.after (stretch row.first row.following) whole
         → IfOk result
         (λ r. FieldPlaced R.after tokens.now unicode conversion whole at r recorder.old
         recorder.new) }
@@ -420,7 +420,7 @@ fn read_spec<R: Recorder>(
         (reader.spec_with (λ i. reader.parts_loop (inner_reads depth) unicode most [] i) unicode
         (seen tokens.now at))
         (λ r. optional (boxed_of r.expr)) (λ r. r.next) result }
-    ensures placed { (whole : Stretch) → Alike R.after (stretch row.first row.behind) whole
+    ensures placed { (whole : Stretch) → Alike R.after (stretch row.first row.following) whole
         → IfOk result (λ r. (ps : List Stretch) ×
         PlacedSpec unicode whole (seen tokens.now at) at (optional (boxed_of r.expr))
         (seen tokens.now r.next) r.next ps ×

@@ -33,7 +33,7 @@ use Rattle.pyparse_line.specs.Inner.Openings.{opening_at, plain_opening}
 use Rattle.pyparse_statement.proofs.Callers.Parts.{answered_as}
 
 module _ (profile : Profile) (self : Reads) where
-  -- statements behind a colon
+  -- statements after a colon
   suite_some : (i : List Terminal) → 0 < length i → suite profile self i ≡ and_then (statements profile self (suc (length i)) i)
       (λ ss r. Found (Some ss) r)
   suite_some [] w = absurd (omega (arith, w))
@@ -58,7 +58,7 @@ module _ (profile : Profile) (self : Reads) where
           ∙ ap (λ y. and_then y (λ ss r. Found (Some ss) r)) f.is;
     }
 
-  -- a header, its colon, and what stands behind it
+  -- a header, its colon, and what stands after it
   suite_is : (h : Header) (r : List Terminal) → reader.suite profile self h r ≡ and_then (suite profile self r)
       (λ s r1. Found (header_form h s) r1)
   suite_is h [] = refl

@@ -29,15 +29,15 @@ at_last (t ∷ []) (suc n) e = absurd (omega (arith, e))
 at_last (t ∷ (u ∷ i)) zero e = absurd (omega (arith, e))
 at_last (t ∷ (u ∷ i)) (suc n) e = at_last (u ∷ i) n (omega (arith, e))
 
-behind_first : (i : List Terminal) (n : ℕ) → length i ≡ n + 1 → 0 < n
+following_first : (i : List Terminal) (n : ℕ) → length i ≡ n + 1 → 0 < n
     → ends_in_colon (drop 1 i) ≡ is_some (first_is (is_op Colon) (drop n i))
-behind_first [] n e w = absurd (omega (arith, e))
-behind_first (t ∷ i) zero e w = absurd (omega (arith, w))
-behind_first (t ∷ i) (suc n) e w = at_last i n (omega (arith, e))
+following_first [] n e w = absurd (omega (arith, e))
+following_first (t ∷ i) zero e w = absurd (omega (arith, w))
+following_first (t ∷ i) (suc n) e w = at_last i n (omega (arith, e))
 
 module _ (ts : List given.Terminal) where
   lasts : (n : ℕ) → length ts ≡ n + 1 → 0 < n → ends_in_colon (seen ts 1) ≡ is_some (first_is (is_op Colon) (seen ts n))
-  lasts n e w = behind_first (map terminal ts) n (length-map ts terminal ∙ e) w
+  lasts n e w = following_first (map terminal ts) n (length-map ts terminal ∙ e) w
 
   -- a list of two terminals or more ends in what stands last
   pub last_colon : (n : ℕ) (b : Bool) → length ts ≡ n + 1 → 0 < n
@@ -45,7 +45,7 @@ module _ (ts : List given.Terminal) where
   last_colon n true e w s = sym (lasts n e w ∙ ap (λ r. is_some (first_is (is_op Colon) r)) s.is)
   last_colon n false e w h = ap is_some h ∙ sym (lasts n e w)
 
-  -- one of fewer has nothing behind the first
+  -- one of fewer has nothing after the first
   pub no_colon : length ts < 2 → false ≡ ends_in_colon (seen ts 1)
   no_colon w = short (map terminal ts) (omega (arith, w, length-map ts terminal))
     where

@@ -30,7 +30,7 @@ use Rattle.pyparse_line.specs.Lines.{Refused}
 abbrev whole : Answer Form → Answer Form
 whole x = cap_form 500 (and_then x (λ f r. on_none r (Found f []) NoForm))
 
--- either reader, and nothing left over behind it
+-- either reader, and nothing left over after it
 either : (b : Bool) (x y : Answer Form) (k : Form → List Terminal → Answer Form)
     → cond b (and_then x k) (and_then y k) ≡ and_then (cond b x y) k
 either true x y k = refl

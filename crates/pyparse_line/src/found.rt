@@ -16,7 +16,7 @@ pub(crate) struct ReadForm {
     pub height: usize,
     pub next: usize,
     pub before: usize,
-    pub behind: usize,
+    pub following: usize,
     pub ghost is_height: { height ≡ form_height (form_of form) },
 }
 

@@ -55,7 +55,7 @@ fn read_decorator<E: ReadsExpressions, R: Recorder>(
         height: e.height,
         next: e.next,
         before: recorded,
-        behind: recorded,
+        following: recorded,
         form: Form::Decorator { value: e.expr },
     })
 }
@@ -112,18 +112,18 @@ fn read_colon<E: ReadsExpressions, R: Recorder>(
 }
 
 /// A line of a header, of its parts.
-fn headed_form(header: ReadHeader, suite: ReadSuite, behind: usize) -> ReadForm
+fn headed_form(header: ReadHeader, suite: ReadSuite, following: usize) -> ReadForm
     ensures form { form_of result.form
         ≡ lines.header_form (header_of header.header) (suite_of suite.statements) }
     ensures next { result.next ≡ suite.next }
     ensures before { result.before ≡ header.before }
-    ensures behind { result.behind ≡ behind }
+    ensures following { result.following ≡ following }
 {
     ReadForm {
         height: header.height.max(suite.height),
         next: suite.next,
         before: header.before,
-        behind,
+        following,
         form: Form::Headed {
             header: header.header,
             suite: suite.statements,
@@ -147,9 +147,9 @@ fn read_headed<E: ReadsExpressions, R: Recorder + Drop>(
         recorder.new) }
 {
     let header = read_header::<E, R>(alloc, tokens, 0, profile, depth, recorder)?;
-    let behind = recorder.recorded();
+    let following = recorder.recorded();
     let suite = read_colon::<E, R>(alloc, tokens, header.next, profile, depth, recorder)?;
-    Ok(headed_form(header, suite, behind))
+    Ok(headed_form(header, suite, following))
 }
 
 /// Simple statements, with `;` between them.
@@ -171,7 +171,7 @@ fn read_simple<E: ReadsExpressions, R: Recorder>(
         height: read.height,
         next: read.next,
         before: recorded,
-        behind: recorded,
+        following: recorded,
         form: Form::Simple {
             statements: read.statements,
         },
@@ -197,9 +197,9 @@ fn read_case<E: ReadsExpressions, R: Recorder>(
         recorder.new) }
 {
     let header = case_rest::<E, R>(alloc, tokens, at, depth, recorder)?;
-    let behind = recorder.recorded();
+    let following = recorder.recorded();
     let suite = read_colon::<E, R>(alloc, tokens, header.next, profile, depth, recorder)?;
-    Ok(headed_form(header, suite, behind))
+    Ok(headed_form(header, suite, following))
 }
 
 /// The form at the front of a line at its place, by what begins it.

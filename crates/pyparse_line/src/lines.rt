@@ -25,7 +25,7 @@ use std::alloc::Global;
 pub struct FormRead {
     pub form: Form,
     pub before: usize,
-    pub behind: usize,
+    pub following: usize,
 }
 
 /// The form of a logical line that some terminals are, in a version and an extent of Python.
@@ -53,10 +53,10 @@ pub fn read_line<E: ReadsExpressions, R: Recorder + Drop>(
     ensures placed { IfOk result
         (λ r. (d : FormAt profile inside (map terminal tokens.now) (form_of r.form))
         × (r.before ≡ R.recorded_count (afters R.after recorder.old (places_at d).before))
-        × (r.behind ≡ R.recorded_count
-        (afters R.after recorder.old ((places_at d).before ++ (places_at d).behind)))
+        × (r.following ≡ R.recorded_count
+        (afters R.after recorder.old ((places_at d).before ++ (places_at d).following)))
         × Records R.after recorder.old
-        ((places_at d).before ++ ((places_at d).behind ++ (places_at d).suite)) recorder.new) }
+        ((places_at d).before ++ ((places_at d).following ++ (places_at d).suite)) recorder.new) }
 {
     let read = read_front::<E, R>(alloc, tokens, profile, inside, Depth::of(tokens), recorder)?;
     if read.next != tokens.len() {
@@ -68,6 +68,6 @@ pub fn read_line<E: ReadsExpressions, R: Recorder + Drop>(
     Ok(FormRead {
         form: read.form,
         before: read.before,
-        behind: read.behind,
+        following: read.following,
     })
 }

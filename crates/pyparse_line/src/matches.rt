@@ -79,7 +79,7 @@ pub(crate) fn match_rest<E: ReadsExpressions, R: Recorder>(
         height: subject.height,
         next: subject.next + 1,
         before: recorded,
-        behind: recorded,
+        following: recorded,
         form: Form::Headed {
             header: Header::Match {
                 subject: subject.expr,

@@ -90,26 +90,26 @@ module _ (token : Kind → List ℕ → Walk → Walk) (ts : Kind → List ℕ �
           → count (past_each (past_lexeme token) xs v) ≡ count v + length (flat_map own (tokens_of xs)))
           → count (past_each (past_lexeme token) (x ∷ xs) w) ≡ count w + length (flat_map own (tokens_of (x ∷ xs)))
       by true gap more =
-          let behind = flat_map (λ (y : Lexeme). y.text) xs ++ left in
-          let text_ok : all_scalars (x.text ++ behind) ≡ true =
+          let following = flat_map (λ (y : Lexeme). y.text) xs ++ left in
+          let text_ok : all_scalars (x.text ++ following) ≡ true =
           subst (λ (cs : List ℕ). all_scalars cs ≡ true) (append_assoc x.text (flat_map (λ (y : Lexeme). y.text) xs) left) u in
           let rest : list_any faulty (tokens_of xs) ≡ false = rw gap at none in
           let step : past_lexeme token x w ≡ further (bytes_in x.text) w = rw gap refl in
           let toks : tokens_of (x ∷ xs) ≡ tokens_of xs = rw gap refl in
           ap (λ (v : Walk). count (past_each (past_lexeme token) xs v)) step
-          ∙ more (scalars_back x.text behind text_ok) rest (further (bytes_in x.text) w)
+          ∙ more (scalars_back x.text following text_ok) rest (further (bytes_in x.text) w)
           ∙ ap (λ (ys : List FieldToken). count w + length (flat_map own ys)) (sym toks)
       by false gap more =
-          let behind = flat_map (λ (y : Lexeme). y.text) xs ++ left in
-          let text_ok : all_scalars (x.text ++ behind) ≡ true =
+          let following = flat_map (λ (y : Lexeme). y.text) xs ++ left in
+          let text_ok : all_scalars (x.text ++ following) ≡ true =
           subst (λ (cs : List ℕ). all_scalars cs ≡ true) (append_assoc x.text (flat_map (λ (y : Lexeme). y.text) xs) left) u in
           let k = kind_of x.«class» true in
           let clean : list_any faulty (field_token x.«class» x.text ∷ tokens_of xs) ≡ false = rw gap at none in
           let parts = or_parts (is_some (fault k x.text)) (list_any faulty (tokens_of xs)) clean in
           let next = token k x.text w in
           let here : count next ≡ count w + length (ts k x.text) =
-          fits k x.text (scalars_of x.text behind text_ok) (none_is (fault k x.text) parts.0) w in
-          let rest = more (scalars_back x.text behind text_ok) parts.1 next in
+          fits k x.text (scalars_of x.text following text_ok) (none_is (fault k x.text) parts.0) w in
+          let rest = more (scalars_back x.text following text_ok) parts.1 next in
           let size : length (flat_map own (field_token x.«class» x.text ∷ tokens_of xs)) ≡ length (ts k x.text)
           + length (flat_map own (tokens_of xs)) =
           length-append (ts k x.text) (flat_map own (tokens_of xs)) in

@@ -25,7 +25,7 @@ use Rattle.pyparse_marks.proofs.Fitting.{count, put_one, scalars_back, scalars_d
 scalars_tail : (c : ℕ) (cs : List ℕ) → all_scalars (c ∷ cs) ≡ true → all_scalars cs ≡ true
 scalars_tail c cs e = (and_parts (scalar c) (all_scalars cs) e).1
 
--- what is left behind the parts of a field
+-- what is left after the parts of a field
 
 keeps_ok : {n : Bool} {cs here rest : List ℕ} {k : Option (List ℕ)} → Keeps n cs here k rest → all_scalars here ≡ true
     → all_scalars rest ≡ true
@@ -75,7 +75,7 @@ module _ (expression : List ℕ → Walk → Walk) (terminals : List ℕ → Lis
       let first : count begun ≡ count (with_kept a k w) + 1 = put_one a.whole (with_kept a k w) in
       omega (arith, kept_fits k w, first, inside, last)
 
-  -- what is said of a part, and what stands behind it
+  -- what is said of a part, and what stands after it
   record Said (past : Walk → Walk) (es : List Element) (rest : List ℕ) : Type 0 where
     pub rest_ok : all_scalars rest ≡ true
     pub fit : Fits past es
@@ -100,14 +100,14 @@ module _ (expression : List ℕ → Walk → Walk) (terminals : List ℕ → Lis
         → Fits (past_part expression past a (field f)) (field_elements elements f)
     field_fits f u fit none w =
         let spec = spec_elements elements f.spec in
-        let behind = Field f.conversion f.text ∷ (spec ++ End ∷ []) in
-        let inner = none_back (is_field_of faulty) (kept_elements f.kept) behind none in
+        let following = Field f.conversion f.text ∷ (spec ++ End ∷ []) in
+        let inner = none_back (is_field_of faulty) (kept_elements f.kept) following none in
         let own = or_parts (faulty f.text) (fails (spec ++ End ∷ [])) inner in
         let front = past_front expression a f.kept f.text w in
         let last = past_spec past a f.spec front in
-        let one : size (field_elements elements f) ≡ size (kept_elements f.kept) + size behind =
-        flat_both (element_terminals terminals) (kept_elements f.kept) behind in
-        let two : size behind ≡ suc (length (terminals f.text) + size (spec ++ End ∷ [])) =
+        let one : size (field_elements elements f) ≡ size (kept_elements f.kept) + size following =
+        flat_both (element_terminals terminals) (kept_elements f.kept) following in
+        let two : size following ≡ suc (length (terminals f.text) + size (spec ++ End ∷ [])) =
         ap suc (length-append (terminals f.text) (flat_map (element_terminals terminals) (spec ++ End ∷ []))) in
         let three : size (spec ++ End ∷ []) ≡ size spec + 1 = flat_both (element_terminals terminals) spec (End ∷ []) in
         let begin : count front ≡ count w + size (kept_elements f.kept) + 1 + length (terminals f.text) =
@@ -129,8 +129,8 @@ module _ (expression : List ℕ → Walk → Walk) (terminals : List ℕ → Lis
         → Said (past_part expression past a (field f)) (field_elements elements f) rest
     field_said said n cs f rest i u =
         let whole = ap all_scalars (sym i.expression.whole) ∙ u in
-        let behind = scalars_back f.text i.after_expression whole in
-        let spec = specifies_ok said i.specifies (converts_ok i.converts (keeps_ok i.keeps behind)) in
+        let following = scalars_back f.text i.after_expression whole in
+        let spec = specifies_ok said i.specifies (converts_ok i.converts (keeps_ok i.keeps following)) in
         record {
           rest_ok = scalars_tail right_curly_bracket rest spec.0;
           fit = field_fits f (scalars_of f.text i.after_expression whole) spec.1;
@@ -145,8 +145,8 @@ module _ (expression : List ℕ → Walk → Walk) (terminals : List ℕ → Lis
       rest_ok = text_ok t u;
       fit = λ none w. put_one a.whole w;
     }
-    cut_said is_raw has_pairs said (and_field {t = t} {inside} {behind} {f = f} {parts} is_text is_field rest) u =
-        let here = said inside f behind is_field (scalars_tail left_curly_bracket inside (text_ok is_text u)) in
+    cut_said is_raw has_pairs said (and_field {t = t} {inside} {following} {f = f} {parts} is_text is_field rest) u =
+        let here = said inside f following is_field (scalars_tail left_curly_bracket inside (text_ok is_text u)) in
         let more = cut_said is_raw has_pairs said rest here.rest_ok in
         let own = field_elements elements f in
         let later = flat_map (part_elements is_raw has_pairs elements) parts in

@@ -40,7 +40,7 @@ cut_passed (Ok x) expression a opening is_nested t parts w first begun last new 
     ∙ sym (ap (λ (o : Option (List BodyPart)). past_cut expression a opening o w) cut)
 cut_passed (Err e) expression a opening is_nested t parts w first begun last new cut one two three four = tt
 
--- past one, and behind it
+-- past one, and after it
 pub formatted_is : (expression : List ℕ → Walk → Walk) (opening : ℕ) (parts : Option (List BodyPart)) (bs : List ℕ) (whole : given.Span)
     (start stop size : ℕ) (w cut new : Walk) → IsUtf8 bs → start ≡ w.at → size ≡ bytes_in (chars bs) → stop ≡ start + size
     → told whole ≡ span start stop

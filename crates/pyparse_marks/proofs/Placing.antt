@@ -27,11 +27,11 @@ use Rattle.pylex_listing.proofs.Callers.{listing_is, is_cut}
 use Rattle.pyfstring_tokens.specs.FieldTokens.{is_token_kind}
 use Rattle.pyparse_marks.proofs.PlaceLemmas.{bytes_both, spot_at, place_on}
 
--- an entry begins behind some of a text
+-- an entry begins after some of a text
 pub record Placed (text : List ℕ) (e : Entry) : Type 0 where
   pub earlier : List ℕ
-  pub behind : List ℕ
-  pub whole : text ≡ earlier ++ behind
+  pub following : List ℕ
+  pub whole : text ≡ earlier ++ following
   pub begins : e.«from» ≡ bytes_in earlier
   pub place : e.start ≡ place_past (spot_at 1 0) earlier
 
@@ -151,7 +151,7 @@ stop_beside fault s left = by (not (length left == 0)) fault
 
 -- ---- The entries of lexemes.
 
--- a state stands behind these characters of a text
+-- a state stands after these characters of a text
 record Stands (text before rest : List ℕ) (s : State) : Type 0 where
   pub whole : text ≡ before ++ rest
   pub offset : s.now.offset ≡ bytes_in before
@@ -163,7 +163,7 @@ entry_placed text before rest s x i = by x.«class»
   where
     own : {e : Entry} → e.start ≡ s.now.place → e.«from» ≡ s.now.offset → IsPlaced text e
     own start begin _ =
-        record { earlier = before; behind = rest; whole = i.whole; begins = begin ∙ i.offset; place = start ∙ i.place }
+        record { earlier = before; following = rest; whole = i.whole; begins = begin ∙ i.offset; place = start ∙ i.place }
 
     operator : (b : Bool) (e : Entry) → e.start ≡ s.now.place → e.«from» ≡ s.now.offset
         → AllPlaced text (if b then fault_at errors.UnmatchedCloser s.now.place ∷ [] else steps.Entry e ∷ [])

@@ -6,17 +6,17 @@ use Rattle.std.proofs.Common.{◌≡◌, [], ◌∷◌, ◌++◌, refl}
 use Rattle.std.specs.Prelude.{codes}
 use Rattle.pylex_lexeme.proofs.Callers.Lexemes.{lexemes}
 use Rattle.pylex_listing.specs.declared.kind.Kind.TheVariants as kinds
-use Rattle.pyfstring.specs.Texts.{unit_len, behind_text}
-use Rattle.pyfstring.specs.Expressions.{step, behind_expression}
-use Rattle.pyfstring.specs.Cutting.{before, text_at, expression_at, kept_at, conversion_at, front_at, spec_at, behind_closing, field_at}
+use Rattle.pyfstring.specs.Texts.{unit_len, after_text}
+use Rattle.pyfstring.specs.Expressions.{step, following_expression}
+use Rattle.pyfstring.specs.Cutting.{before, text_at, expression_at, kept_at, conversion_at, front_at, spec_at, after_closing, field_at}
 use Rattle.pyfstring.specs.Cutting.{cut_at, inner_field_at, spec_pieces_at, body_field_at, body_pieces_at, cut_of}
 use Rattle.pyparse_marks.specs.Spans.{span}
 use Rattle.pyparse_marks.specs.TokenSpans.{past_expression, past_formatted, token_spans}
 use Rattle.pyparse_marks.specs.LineSpans.{offset}
 
 unfoldable spans : Unit {0}
-unfolding lexemes encode unit_len behind_text step behind_expression before text_at expression_at kept_at conversion_at front_at spec_at
-    behind_closing field_at cut_at inner_field_at spec_pieces_at body_field_at body_pieces_at cut_of past_expression past_formatted
+unfolding lexemes encode unit_len after_text step following_expression before text_at expression_at kept_at conversion_at front_at spec_at
+    after_closing field_at cut_at inner_field_at spec_pieces_at body_field_at body_pieces_at cut_of past_expression past_formatted
     token_spans
 spans = tt
 

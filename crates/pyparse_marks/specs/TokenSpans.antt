@@ -2,7 +2,7 @@
 --
 -- A token but an f-string is one terminal. Of an f-string the terminals of its fields' expressions have their own bytes; its begin and end,
 -- its texts, and the begins and ends of its fields and their specs have those of the whole token, as in Python 3.11 all these nodes have.
--- An expression is read in round brackets: the first stands for the field's brace, the second for the byte behind the expression.
+-- An expression is read in round brackets: the first stands for the field's brace, the second for the byte after the expression.
 use Rattle.std.specs.Prelude.{ℕ, ◌+◌, ◌-◌, Bool, true, false, ◌==◌, List, [], ◌∷◌, ◌++◌, drop, slice_index_or, Option, Some, None}
 use Rattle.std.specs.Prelude.{if◌then◌else◌}
 use Rattle.std.specs.Str.{encode_utf8_all}

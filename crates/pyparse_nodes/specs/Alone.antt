@@ -1,4 +1,4 @@
--- Atoms of one terminal with nothing behind them that goes on with them.
+-- Atoms of one terminal with nothing after them that goes on with them.
 use Rattle.std.specs.Prelude.{List, [], ◌∷◌, Bool, true, false, ◌&&◌}
 use Rattle.pylex_lexeme.specs.declared.kinds.Exact.TheVariants.{RPar, RSqb, RBrace, Colon, Comma, Equal}
 use Rattle.pytoken.specs.Terminals.{Terminal, Op, Ident, Number, Literal}

@@ -16,7 +16,7 @@ Failed stop.NoForm x = x ≡ NoForm
 Failed stop.TooDeep x = x ≡ TooDeep
 Failed stop.Memory x = Unit {0}
 
--- an expression, and the place behind it
+-- an expression, and the place after it
 pub record Made (room : ℕ) (e : Expr) (next : ℕ) (r : Read) : Type 0 where
   pub tree : tree_of r.expr.value ≡ e
   pub next_is : r.next ≡ next

@@ -1,4 +1,4 @@
--- Parameters as they are read, one behind the other.
+-- Parameters as they are read, one after the other.
 use Rattle.std.specs.Prelude.{List, [], ◌∷◌, ◌++◌, Option, Some, None, Bool, true, false}
 use Rattle.pytree_node.specs.Trees.{Expr, Exprs, an_expr, OptionalExpr, absent, present, OptionalExprs, an_optional, Arg, Args, an_arg}
 use Rattle.pytree_node.specs.Trees.{OptionalArg, present_arg, Arguments, arguments}

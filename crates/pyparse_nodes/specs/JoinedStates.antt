@@ -1,4 +1,4 @@
--- The values of a JoinedStr as they are read, one part behind the other.
+-- The values of a JoinedStr as they are read, one part after the other.
 use Rattle.std.specs.Prelude.{◌≡◌, ℕ, List, [], ◌∷◌, ◌++◌, Bool, map}
 use Rattle.pytree_node.specs.Trees
 use Rattle.pytree_node.specs.Trees.{Expr}
@@ -8,7 +8,7 @@ use Rattle.pygrammar.specs.FormattedStrings.{StringPart, Text, Field}
 use Rattle.pyparse_nodes.specs.declared.found.Read.{Read}
 use Rattle.pyparse_nodes.specs.declared.found.JoinedValues.{JoinedValues}
 
--- the values up to the last field, and the text behind it
+-- the values up to the last field, and the text after it
 pub data State : Type 0 where
   state : List Expr → List ℕ → State
 
@@ -37,12 +37,12 @@ gathered u ps = steps u (state [] []) ps
 abbrev pub state_of : JoinedValues → State
 state_of j = state (map tree_of j.values.items) j.text
 
--- these values are such ones, and what stands behind them
+-- these values are such ones, and what stands after them
 pub record Gathers (s : State) (next : ℕ) (j : JoinedValues) : Type 0 where
   pub is : state_of j ≡ s
   pub next_is : j.next ≡ next
 
--- an expression of any height, and the place behind it
+-- an expression of any height, and the place after it
 pub record IsNode (e : Expr) (next : ℕ) (r : Read) : Type 0 where
   pub tree : tree_of r.expr.value ≡ e
   pub next_is : r.next ≡ next

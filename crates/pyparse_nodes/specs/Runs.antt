@@ -1,4 +1,4 @@
--- Neighbouring literals behind a first one, of this value.
+-- Neighbouring literals after a first one, of this value.
 use Rattle.std.specs.Prelude.{◌≡◌, List, [], ◌∷◌, None}
 use Rattle.pytree_node.specs.Values.{Value}
 use Rattle.pytoken.specs.Terminals.{Terminal, Literal}
@@ -12,7 +12,7 @@ use Rattle.pyparse_nodes.specs.Answers.{Failed}
 abbrev pub run : Value → List Terminal → Answer Value
 run v r = and_then (string_run [] r) (λ vs s. made (joined v vs) s)
 
--- one more literal makes one value of another; or it may not stand behind it
+-- one more literal makes one value of another; or it may not stand after it
 pub record Joins (v w new : Value) : Type 0 where
   pub is : (r : List Terminal) → run v (Literal w ∷ r) ≡ run new r
 

@@ -36,8 +36,8 @@ pub enum Prefix {
 }
 
 /// What an operator after an expression makes.
-pub(crate) fn behind(t: Terminal) -> Option<Infix>
-    ensures is { option_map infix_value result ≡ precedence.behind (terminal t.entry) }
+pub(crate) fn following(t: Terminal) -> Option<Infix>
+    ensures is { option_map infix_value result ≡ precedence.following (terminal t.entry) }
     ensures level { IfSome result (λ o. IsInfix (infix_value o)) }
 {
     match t {
@@ -92,10 +92,10 @@ pub(crate) fn infix_rank(o: Infix) -> u8
 fn infix_of(t: Terminal, least: u8) -> Option<Infix>
     ensures is { option_map infix_value result ≡ precedence.infix_from least (terminal t.entry) }
     ensures stands { IfSome result
-        (λ o. Some (infix_value o) ≡ precedence.behind (terminal t.entry)) }
+        (λ o. Some (infix_value o) ≡ precedence.following (terminal t.entry)) }
     ensures level { IfSome result (λ o. IsInfix (infix_value o)) }
 {
-    match behind(t) {
+    match following(t) {
         Some(o) => if infix_rank(o) >= least {
             Some(o)
         } else {
@@ -111,7 +111,7 @@ pub fn infix_at(tokens: &[Terminal], at: usize, least: u8) -> Option<Infix>
     ensures is { option_map infix_value result
         ≡ first_is (precedence.infix_from least) (seen tokens.now at) }
     ensures stands { IfSome result (λ o. Some (infix_value o)
-        ≡ first_is precedence.behind (seen tokens.now at)) }
+        ≡ first_is precedence.following (seen tokens.now at)) }
     ensures level { IfSome result (λ o. IsInfix (infix_value o)) }
     ensures within { IfSome result (λ _. at < length tokens.now) }
 {

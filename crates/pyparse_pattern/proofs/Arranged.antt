@@ -108,7 +108,7 @@ rest_last items at e x l g r = go (drop (suc at) items) (length-drop (suc at) it
 
 -- ---- Patterns of lists of entries.
 
--- behind the last entry
+-- after the last entry
 pub ended : {B : Type 0} (xs ys : List B) (f : List PatternEntry → List B) (rest : List given_entry.PatternEntry) → length rest ≡ 0
     → f [] ≡ [] → xs ++ f (map entry_of rest) ≡ ys → xs ≡ ys
 ended xs ys f [] l n h = sym (append-nil xs) ∙ ap (λ z. xs ++ z) (sym n) ∙ h

@@ -69,7 +69,7 @@ module _ (ts : List given.Terminal) (more room least : ℕ) (x : Answer Expr) (r
     is = ap (λ y. cap_value room y) f.is ∙ capped_low room (tree_of r.expr.value) (seen ts r.next) (omega (arith, h, r.is_height));
   }
 
-  -- the same behind a limit
+  -- the same after a limit
   found : FoundAt ts more least (cap_value more x) r → FoundAt ts more least x r
   found f = record { ahead = f.ahead; within = f.within; low = f.low; is = uncapped more x (tree_of r.expr.value) (seen ts r.next) f.is }
 

@@ -107,7 +107,7 @@ module _ (d : Depth) where
 -- ---- A name that is a value.
 
 module _ (ts : List given.Terminal) (d : Depth) (at : ℕ) (x : Identifier) where
-  -- no bracket behind its points
+  -- no bracket after its points
   pointed : (e : Read) → Stands (Op Dot) ts at → FoundAt ts (d.room - 1 + 1) at (dotted_from (d.room - 1) x (seen ts at)) e
       → None ≡ first_is (is_op LPar) (seen ts e.next) → and_then (dotted_from (d.room - 1) x (seen ts at))
       (reader.dotted_pattern (d.room - 1) (field_reads d) (inner_reads d)) ≡ Found (MatchValue (tree_of e.expr.value)) (seen ts e.next)
@@ -115,7 +115,7 @@ module _ (ts : List given.Terminal) (d : Depth) (at : ℕ) (x : Identifier) wher
       (λ g y r. refl) ts at x s ∙ ap (λ y. and_then y (qualified d)) f.is
       ∙ first_miss (is_op LPar) (seen ts e.next) _ (Found (MatchValue (tree_of e.expr.value)) (seen ts e.next)) n
 
-  -- with a bracket behind the name there are none
+  -- with a bracket after the name there are none
   pub no_bracket : (e : Read) → Stands (Op LPar) ts at → FoundAt ts (d.room - 1 + 1) at (dotted_from (d.room - 1) x (seen ts at)) e
       → None ≡ first_is (is_op LPar) (seen ts e.next) → ⊥
   no_bracket e s f n =

@@ -30,7 +30,7 @@ module _ (ts : List given.Terminal) (d : Depth) (i : PatternItem) where
   abbrev loop : ℕ → List PatternEntry → List Terminal → Answer (List PatternEntry)
   loop m acc r = reader.entries_loop (d.room - 1) (field_reads d) (inner_reads d) i m acc r
 
-  -- behind an entry
+  -- after an entry
   abbrev turned : ℕ → List PatternEntry → List Terminal → Answer (List PatternEntry)
   turned m acc r = on_first (is_op Comma) r (λ _ s. loop m acc s) (Found acc r)
 
@@ -88,7 +88,7 @@ module _ (ts : List given.Terminal) (d : Depth) (i : PatternItem) where
             ∙ ap (λ y. and_then y (λ e u. turned m (map entry_of s.items.items ++ (e ∷ [])) u)) f.is
             ∙ ap (λ es. turned m es (seen ts one.next)) (sym g) ∙ ap (λ k. turned m (map entry_of r.items.items) (seen ts k)) (sym n)
 
-        -- no comma behind one
+        -- no comma after one
         pub entries_last : (least : ℕ) → None ≡ first_is (is_op Comma) (seen ts r.next) → least ≤ s.next
             → EntriesAt ts (d.room - 1) least x r
         entries_last least o le = go c.most c.enough c.is
@@ -103,7 +103,7 @@ module _ (ts : List given.Terminal) (d : Depth) (i : PatternItem) where
               is = turn m q ∙ first_miss (is_op Comma) (seen ts r.next) _ (Found (map entry_of r.items.items) (seen ts r.next)) o;
             }
 
-        -- a comma behind one
+        -- a comma after one
         pub entries_more : (z : Entries) → Stands (Op Comma) ts r.next → map entry_of z.items.items ≡ map entry_of r.items.items
             → z.height ≡ r.height → z.next ≡ r.next + 1 → Listed x z
         entries_more z o zg zh zn = go c.most c.enough c.is

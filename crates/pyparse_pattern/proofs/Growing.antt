@@ -41,7 +41,7 @@ alone_height (Keyed k p ∷ es) h = absurd (cc)
 alone_height (Rest x ∷ es) h = absurd (cc)
 alone_height (Named x p ∷ es) h = absurd (cc)
 
--- patterns behind others
+-- patterns after others
 pub alone_heights : (xs ys : List Pattern) (es : List PatternEntry) (h k : ℕ) → ys ≡ xs ++ alone_in es → are_alone es ≡ true
     → h ≡ pattern_heights (patterns xs) → k ≡ entry_heights es → max h k ≡ pattern_heights (patterns ys)
 alone_heights xs ys es h k q s a b = omega (

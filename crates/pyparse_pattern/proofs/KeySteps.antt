@@ -25,7 +25,7 @@ use Rattle.pyparse_pattern.specs.Inner.Values.{keys}
 use Rattle.pyparse_pattern.proofs.Caps.{low_answered}
 use Rattle.pyparse_pattern.proofs.Points.{after_point}
 
--- no change behind an answer
+-- no change after an answer
 unchanged : (x : Answer Expr) → and_then x (λ e r. Found e r) ≡ x
 unchanged (Found e r) = refl
 unchanged NoForm = refl

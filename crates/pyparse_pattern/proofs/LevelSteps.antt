@@ -87,7 +87,7 @@ module _ (ts : List given.Terminal) (room least : ℕ) (p : Pattern) (n : ℕ) (
   leaf (Err stop.TooDeep) o m = absurd (cc)
   leaf (Err stop.Memory) o m = tt
 
--- ---- Names: behind a `*`, an `as` and a `**`.
+-- ---- Names: after a `*`, an `as` and a `**`.
 
 module _ (ts : List given.Terminal) (at : ℕ) (x : Identifier) (stands : Some x ≡ first_is name_in (seen ts at)) (w : at < length ts) where
   named_is : {A : Type 0} (k : Identifier → List Terminal → Answer A) → on_first name_in (seen ts at) k NoForm ≡ k x (seen ts (at + 1))

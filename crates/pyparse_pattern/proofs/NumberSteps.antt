@@ -49,7 +49,7 @@ imaginaryless ts at stop.NoForm k h = no_imaginary (seen ts at) k h
 imaginaryless ts at stop.TooDeep k h = absurd (not_deep (seen ts at) h)
 imaginaryless ts at stop.Memory k h = tt
 
--- the imaginary number behind a sign
+-- the imaginary number after a sign
 
 module _ (ts : List given.Terminal) (e : Expr) (at : ℕ) (o : Operator) (sign : Some o ≡ first_is (left_operator Sum) (seen ts at)) where
   abbrev right : List Terminal → Answer Expr

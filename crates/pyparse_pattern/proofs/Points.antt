@@ -22,7 +22,7 @@ use Rattle.pyparse_nodes.specs.Views.{Stands, first_is, seen}
 use Rattle.pyparse_reads.proofs.Callers.Looks.{first_hit, first_miss, seen_length, seen_next}
 use Rattle.pyparse_pattern.proofs.Caps.{capped_high, capped_low}
 
--- behind a point
+-- after a point
 abbrev named_from : (room m : ℕ) → Expr → List Terminal → Answer Expr
 named_from room m e i =
     on_first name_in i (λ x r. and_then (cap_value room (Found (Trees.Attribute e x Load) r)) (λ f r1. dotted_loop room m f r1)) NoForm
@@ -116,7 +116,7 @@ module _ (ts : List given.Terminal) (room : ℕ) where
             ∙ ap (λ k. dotted_loop room m (tree_of r.expr.value) (seen ts k)) (sym h.next_is);
       }
 
--- ---- With a point behind the first name it is an attribute.
+-- ---- With a point after the first name it is an attribute.
 
 module _ {B : Type 0} (room : ℕ) (k h : Expr → List Terminal → Answer B) where
   abbrev Same : Answer Expr → Type 0

@@ -38,10 +38,10 @@ pub whole : (p : Pattern) (ps : List Pattern) (es : List PatternEntry) → ps �
 whole p ps es h = ap patterns h ∙ ap (λ qs. a_pattern p qs) (alone_elements es)
 
 module _ (ts : List given.Terminal) (d : Depth) (at : ℕ) where
-  abbrev behind_first : Pattern → List Terminal → Answer Pattern
-  behind_first = patterns_from d.room (d.room - 1) (field_reads d) (inner_reads d) (same_reads d) (seen ts at)
+  abbrev following_first : Pattern → List Terminal → Answer Pattern
+  following_first = patterns_from d.room (d.room - 1) (field_reads d) (inner_reads d) (same_reads d) (seen ts at)
 
-  -- behind the first pattern of round brackets
+  -- after the first pattern of round brackets
   abbrev round_from : Pattern → List Terminal → Answer Pattern
   round_from p r = on_first (is_op Comma) r
       (λ _ r1. and_then (entries_of d Element r1) (λ es r2. closed RPar r2 (MatchSequence (a_pattern p (elements es)))))
@@ -59,10 +59,10 @@ module _ (ts : List given.Terminal) (d : Depth) (at : ℕ) where
     open_sequence z f m =
         let hit : List PatternEntry → List Terminal → Answer Pattern =
         λ es r. cap_pattern d.room (Found (MatchSequence (a_pattern (pattern_of first.pattern.value) (elements es))) r) in
-        let e : behind_first (pattern_of first.pattern.value) (seen ts first.next) ≡ and_then
+        let e : following_first (pattern_of first.pattern.value) (seen ts first.next) ≡ and_then
         (entries_of d Element (seen ts (first.next + 1))) hit = rw comma.is refl in
         let g : level_reads d level.Patterns (seen ts at) ≡ cap_pattern d.room
-        (Found (MatchSequence (patterns (map pattern_of ps.items.items))) (seen ts ps.next)) = ap (λ x. and_then x (behind_first)) f.is
+        (Found (MatchSequence (patterns (map pattern_of ps.items.items))) (seen ts ps.next)) = ap (λ x. and_then x (following_first)) f.is
         ∙ e ∙ ap (λ x. and_then x hit) others.is
         ∙ ap (λ qs. cap_pattern d.room (Found (MatchSequence qs) (seen ts ps.next))) whole_is in
         rw g (node ts d.room (at + 1) (MatchSequence (patterns (map pattern_of ps.items.items))) ps.next

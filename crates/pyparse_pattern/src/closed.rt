@@ -191,7 +191,7 @@ fn class_pattern<E: ReadsExpressions, R: Recorder>(
     finish_class(alloc, tokens, class, entries, at, depth.room, recorder)
 }
 
-/// After a `{`. The values' patterns are set aside: they come behind all keys.
+/// After a `{`. The values' patterns are set aside: they come after all keys.
 #[cycle(reading)]
 fn mapping<E: ReadsExpressions, R: Recorder>(
     alloc: Global,

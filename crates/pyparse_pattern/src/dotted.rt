@@ -19,7 +19,7 @@ use pytoken::Terminal;
 use pytree_node::Context;
 use std::alloc::Global;
 
-/// A name and the names after points behind it, from after the first one. Each attribute has to
+/// A name and the names after points after it, from after the first one. Each attribute has to
 /// have room, the name alone has it always.
 pub(crate) fn dotted<R: Recorder>(
     alloc: Global,

@@ -13,7 +13,7 @@ ghost use Rattle.pyparse_pattern.specs.Answers.{PatternAnswered};
 ghost use Rattle.pyparse_pattern.specs.Inner.Entries.{entry_of};
 ghost use Rattle.pyparse_pattern.specs.Inner.Made.{MakesPattern};
 ghost use Rattle.pyparse_pattern.specs.Inner.Parts.{IsMappingGrown};
-ghost use Rattle.pyparse_pattern.specs.Inner.PlacedParts.{behinds, fronts};
+ghost use Rattle.pyparse_pattern.specs.Inner.PlacedParts.{followings, fronts};
 ghost use Rattle.pyparse_pattern.specs.Inner.Readings.{mapping_from};
 ghost use Rattle.pyplaces.specs.PatternPlaces.{EntryPlaces};
 ghost use Rattle.pyplaces.specs.PlacedPatterns.{PlacedEntries, PlacedPattern};
@@ -114,7 +114,7 @@ fn make_mapping(
 }
 
 /// A mapping, which begins at a place, and after whose entries its bracket has to stand. Its
-/// patterns are set aside, behind `kept` others.
+/// patterns are set aside, after `kept` others.
 pub(crate) fn finish_mapping<R: Recorder>(
     alloc: Global,
     tokens: &[Terminal],
@@ -131,7 +131,7 @@ pub(crate) fn finish_mapping<R: Recorder>(
     ensures placed { (i : List terminals.Terminal) (w : R) (fs : List EntryPlaces)
         → PlacedEntries arguments.KeyPattern i (from + 1) (map entry_of entries.items.items)
         (seen tokens.now entries.next) entries.next fs
-        → kept ≡ R.aside_count w → Kept R.after R.beside w (fronts fs) (behinds fs) recorder.old
+        → kept ≡ R.aside_count w → Kept R.after R.beside w (fronts fs) (followings fs) recorder.old
         → IfOk result (λ r. (ps : List Stretch) × PlacedPattern PatternLevel.ClosedPattern
         (terminals.Op Exact.LBrace ∷ i) from (pattern_of r.pattern.value)
         (seen tokens.now r.next) r.next ps × Records R.after w ps recorder.new) }

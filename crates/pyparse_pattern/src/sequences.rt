@@ -61,7 +61,7 @@ fn elements<E: ReadsExpressions, R: Recorder>(
     with_elements(patterns, entries)
 }
 
-/// A first pattern, and those after the comma behind it.
+/// A first pattern, and those after the comma after it.
 #[cycle(reading)]
 pub(crate) fn others<E: ReadsExpressions, R: Recorder>(
     alloc: Global,

@@ -15,7 +15,7 @@ use Rattle.pyparse_nodes.specs.Views.{Stands, first_is, seen}
 use Rattle.pyparse_reads.proofs.Callers.Looks.{failed_then, first_miss, seen_length}
 
 -- how far a list was read: what the reader makes of all of it is what it makes of the rest,
--- behind those that were read
+-- after those that were read
 pub record Listed {A : Type 0} (ts : List given.Terminal) (one : List Terminal → Answer A) (more : List Terminal → Bool)
     (x : Answer (List A)) (acc : List A) (n : ℕ) : Type 0 where
   pub within : n ≤ length ts
@@ -40,7 +40,7 @@ module _ {A : Type 0} (ts : List given.Terminal) (one : List Terminal → Answer
         ∙ ap (λ k. and_then (commas one more (suc (length (seen ts at))) (seen ts k)) (λ as_ i. Found (acc ++ as_) i)) (sym e);
   }
 
-  -- behind the first of the rest
+  -- after the first of the rest
   abbrev rest : ℕ → A → List Terminal → Answer (List A)
   rest m a r = on_first (is_op Comma) r (λ _ r1. cond (more r1) (and_then (commas one more m r1) (λ as_ r2. Found (a ∷ as_) r2))
       (Found (a ∷ []) r1)) (Found (a ∷ []) r)
@@ -59,7 +59,7 @@ module _ {A : Type 0} (ts : List given.Terminal) (one : List Terminal → Answer
           → x ≡ and_then (rest m a (seen ts k)) (λ as_ i. Found (acc ++ as_) i)
       first m q = q ∙ ap (λ y. and_then (and_then y (rest m)) (λ as_ i. Found (acc ++ as_) i)) f.is
 
-      -- no comma behind it
+      -- no comma after it
       pub list_last : (low next : ℕ) → next ≡ k → low ≤ k → None ≡ first_is (is_op Comma) (seen ts k) → PartAt ts low x new next
       list_last low next e le h = record {
         ahead = omega (arith, e, le);
@@ -74,11 +74,11 @@ module _ {A : Type 0} (ts : List given.Terminal) (one : List Terminal → Answer
               (first_miss (is_op Comma) (seen ts k) _ (Found (a ∷ []) (seen ts k)) h)
 
       module _ (s : Stands (Op Comma) ts k) (next : ℕ) (e : next ≡ k + 1) where
-        behind : (m : ℕ) → rest m a (seen ts k) ≡ cond (more (seen ts (k + 1)))
+        following : (m : ℕ) → rest m a (seen ts k) ≡ cond (more (seen ts (k + 1)))
             (and_then (commas one more m (seen ts (k + 1))) (λ as_ r2. Found (a ∷ as_) r2)) (Found (a ∷ []) (seen ts (k + 1)))
-        behind m = rw s.is refl
+        following m = rw s.is refl
 
-        -- nothing behind the comma
+        -- nothing after the comma
         pub list_end : (low : ℕ) → low ≤ k → more (seen ts next) ≡ false → PartAt ts low x new next
         list_end low le h = record {
           ahead = omega (arith, e, le);
@@ -92,7 +92,7 @@ module _ {A : Type 0} (ts : List given.Terminal) (one : List Terminal → Answer
             go : (m : ℕ) → length (seen ts n) < m → x ≡ and_then (commas one more m (seen ts n)) (λ as_ i. Found (acc ++ as_) i)
                 → x ≡ Found (acc ++ (a ∷ [])) (seen ts (k + 1))
             go zero l q = absurd (omega (arith, l))
-            go (suc m) l q = first m q ∙ ap (λ y. and_then y (λ as_ i. Found (acc ++ as_) i)) (behind m
+            go (suc m) l q = first m q ∙ ap (λ y. and_then y (λ as_ i. Found (acc ++ as_) i)) (following m
                 ∙ ap (λ b. cond b (and_then (commas one more m (seen ts (k + 1))) (λ as_ r2. Found (a ∷ as_) r2))
                 (Found (a ∷ []) (seen ts (k + 1)))) no_more)
 
@@ -102,7 +102,7 @@ module _ {A : Type 0} (ts : List given.Terminal) (one : List Terminal → Answer
         grown TooDeep = refl
         grown (Found as_ i) = ap (λ l. Found l i) (sym (append_assoc acc (a ∷ []) as_))
 
-        -- another one behind the comma
+        -- another one after the comma
         pub list_more : n ≤ k → more (seen ts next) ≡ true → Listed ts one more x new next
         list_more le h = go c.most c.enough c.is
           where
@@ -117,7 +117,7 @@ module _ {A : Type 0} (ts : List given.Terminal) (one : List Terminal → Answer
               most = m;
               enough = omega (arith, l, e, le, s.within, seen_length ts n, seen_length ts next);
               is = first m q
-                  ∙ ap (λ y. and_then y (λ as_ i. Found (acc ++ as_) i)) (behind m
+                  ∙ ap (λ y. and_then y (λ as_ i. Found (acc ++ as_) i)) (following m
                   ∙ ap (λ b. cond b (and_then (commas one more m (seen ts (k + 1))) (λ as_ r2. Found (a ∷ as_) r2))
                   (Found (a ∷ []) (seen ts (k + 1)))) some_more)
                   ∙ grown (commas one more m (seen ts (k + 1)))

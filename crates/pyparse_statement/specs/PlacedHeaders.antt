@@ -28,18 +28,18 @@ module _ {S : Type 0} (after : S → Stretch → S) (count : S → ℕ) where
   -- directly in front of a colon
   pub record HeaderPlaced (profile : Profile) (ts : List Terminal) (at : ℕ) (old new : S) (r : ReadHeader) : Type 0 where
     pub before : List Stretch
-    pub behind : List Stretch
+    pub following : List Stretch
     pub header : (z : List tokens.Terminal) → seen ts r.next ≡ Op Colon ∷ z
-        → PlacedHeader profile (seen ts at) at (header_of r.header) (seen ts r.next) r.next (form_places before behind [])
+        → PlacedHeader profile (seen ts at) at (header_of r.header) (seen ts r.next) r.next (form_places before following [])
     pub before_is : r.before ≡ count (afters after old before)
-    pub records : Records after old (before ++ behind) new
+    pub records : Records after old (before ++ following) new
 
-  -- behind the keyword that a header begins with
+  -- after the keyword that a header begins with
   abbrev pub WordHeader : Keyword → List Terminal → (at : ℕ) → (old new : S) → Result ReadHeader Stop → Type 0
   WordHeader word ts at old new z = (profile : Profile) (from : ℕ) → at ≡ from + 1 → Stands (Word word) ts from
       → IfOk z (HeaderPlaced profile ts from old new)
 
-  -- behind a keyword that `async` may stand in front of
+  -- after a keyword that `async` may stand in front of
   abbrev pub AsyncHeader : Bool → Keyword → List Terminal → (at : ℕ) → (old new : S) → Result ReadHeader Stop → Type 0
   AsyncHeader is_async word ts at old new z = (profile : Profile) (from middle : ℕ)
       → Bare (λ us. F.Async us is_async) (seen ts from) from (seen ts middle) middle → at ≡ middle + 1 → Stands (Word word) ts middle
@@ -57,7 +57,7 @@ module _ {S : Type 0} (after : S → Stretch → S) (count : S → ℕ) where
     pub before_is : r.before ≡ count (afters after old places)
     pub records : Records after old places new
 
--- The rest of a `def` or a `class`, behind its NAME and the parameters of types, whose places are set aside behind `aside` others.
+-- The rest of a `def` or a `class`, after its NAME and the parameters of types, whose places are set aside after `aside` others.
 module _ {S : Type 0} (after beside : S → Stretch → S) (count aside_count : S → ℕ) where
   abbrev pub FunctionPlaced : Bool → List Terminal → Identifier → ReadTypeParams → (aside : ℕ) → (old new : S)
       → Result ReadHeader Stop → Type 0

@@ -17,7 +17,7 @@ use Rattle.pyparse_nodes.specs.Views.{seen}
 use Rattle.pyplaces.specs.ExpressionPlaces.{del_target_places}
 use Rattle.pyplaces.specs.FormPlaces.{dotted_alias_places, item_places, name_alias_places, type_param_places}
 use Rattle.pyplaces.specs.Placed.{PlacedDelTarget, PlacedItemTarget}
-use Rattle.pyplaces.specs.PlacedForms.{PlacedBehind, PlacedCommas, PlacedEnded, PlacedItem, PlacedItems, PlacedNames, PlacedOptional}
+use Rattle.pyplaces.specs.PlacedForms.{PlacedAfter, PlacedCommas, PlacedEnded, PlacedItem, PlacedItems, PlacedNames, PlacedOptional}
 use Rattle.pyplaces.specs.PlacedForms.{PlacedTypeParam, PlacedTypeParams}
 use Rattle.pyplaces.specs.Recording.{Records}
 use Rattle.pyplaces.specs.Stretches.{Stretch, stretch}
@@ -44,9 +44,9 @@ module _ {S : Type 0} (after : S → Stretch → S) where
     pub part : PlacedOptional l (seen ts at) at (boxed_of r.expr) (seen ts r.next) r.next places
     pub records : Records after old places new
 
-  pub record BehindPlaced (t : tokens.Terminal) (l : Level) (ts : List Terminal) (at : ℕ) (old new : S) (r : Optional) : Type 0 where
+  pub record AfterPlaced (t : tokens.Terminal) (l : Level) (ts : List Terminal) (at : ℕ) (old new : S) (r : Optional) : Type 0 where
     pub places : List Stretch
-    pub part : PlacedBehind t l (seen ts at) at (boxed_of r.expr) (seen ts r.next) r.next places
+    pub part : PlacedAfter t l (seen ts at) at (boxed_of r.expr) (seen ts r.next) r.next places
     pub records : Records after old places new
 
   -- ---- Targets.
@@ -67,7 +67,7 @@ module _ {S : Type 0} (after : S → Stretch → S) where
     pub part : PlacedItemTarget (seen ts at) at (tree_of r.expr.value) (seen ts r.next) r.next places
     pub records : Records after old places new
 
-  -- ---- Parameters of types. The own place of one is recorded behind it.
+  -- ---- Parameters of types. The own place of one is recorded after it.
 
   pub record TypeParamPlaced (ts : List Terminal) (at : ℕ) (old new : S) (r : ReadTypeParam) : Type 0 where
     pub places : List Stretch

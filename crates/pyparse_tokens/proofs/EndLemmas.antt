@@ -12,7 +12,7 @@ use Rattle.pylex_listing.specs.declared.entries.Step.TheVariants as steps
 use Rattle.pylex_listing.specs.Listing.{Source, listing}
 use Rattle.pylex_listing.specs.Steps.{entries_of, fault_of, IsNoEntry}
 use Rattle.pylex_listing.specs.Laws.{AreWhole}
-use Rattle.pytoken.specs.Inner.Behind.{behind}
+use Rattle.pytoken.specs.Inner.Following.{following}
 use Rattle.pytoken.specs.Tokens.{Token, token_of, supplied, is_open, tokens_of_entry, tokens_from, tokens}
 use Rattle.pytoken.proofs.Callers.OnePass.{tokens_on}
 use Rattle.pytoken.specs.MatchHeaders.{ends_in_colon, is_match}
@@ -105,7 +105,7 @@ ends_at s w none =
     let m = w.marker (ends_whole (listing s) w none) in
     let front = m.0 in
     let e = m.1 in
-    let l = marker_last s.text (is_open (behind [] front)) e m.3 in
+    let l = marker_last s.text (is_open (following [] front)) e m.3 in
     let before = tokens_from s.text [] front in (
       front,
       e,

@@ -28,7 +28,7 @@ gathers text es e old new had gains =
       pass = passes text es e old.pass new.pass had.pass gains.pass;
     }
 
--- behind all entries
+-- after all entries
 pub all_tokens : (s : Source) (es : List Entry) (g : Gather) → Gathered s.text es g → es ≡ entries_of (listing s) →
     map token_of g.tokens.items ≡ tokens s
 unfolding tokens

@@ -1,4 +1,4 @@
--- Carries: Indents::take, tokens_of. On: the first mixed line, behind more lines.
+-- Carries: Indents::take, tokens_of. On: the first mixed line, after more lines.
 use Rattle.std.proofs.Common.{◌≡◌, ℕ, zero, suc, ◌<◌, true, false, List, [], ◌∷◌, ◌++◌, ◌+◌, ◌-◌, ◌≤◌, length, take, drop, refl, sym}
 use Rattle.std.proofs.Common.{ap, ap₂, subst, ◌∙◌}
 use Rattle.std.proofs.Common.{arith, length-append, length-take, take-append-drop, Option, Some, None, append_assoc, append-nil}
@@ -17,19 +17,19 @@ use Rattle.std.specs.Prelude.{replicate}
 use Rattle.std.specs.Option.{is_some, option_or}
 use Rattle.std.specs.List.{list_any}
 use Rattle.pylex_listing.specs.declared.margins.Widths.{Widths}
-use Rattle.pylex.proofs.Callers.{spaces_utf8, spaces_chars, behind_spaces}
+use Rattle.pylex.proofs.Callers.{spaces_utf8, spaces_chars, after_spaces}
 use Rattle.pytoken.specs.declared.refusals.Refusal.{Refusal}
 use Rattle.pytoken.specs.declared.refusals.Refusal.TheVariants.{MixedTabs}
-use Rattle.pytoken.specs.Inner.Behind.{behind}
-use Rattle.pytoken.specs.Indentation.{Margin, behind_offset, margin_at, is_mixed}
+use Rattle.pytoken.specs.Inner.Following.{following}
+use Rattle.pytoken.specs.Indentation.{Margin, following_offset, margin_at, is_mixed}
 use Rattle.pytoken.specs.Refusals.{margin_refusal, first_mixed}
-use Rattle.pytoken.proofs.Callers.OnePass.{behind_on, mixed_on}
+use Rattle.pytoken.proofs.Callers.OnePass.{after_on, mixed_on}
 use Rattle.pyparse_tokens.specs.declared.indents.Indents.{Indents}
 use Rattle.pyparse_tokens.specs.Inner.Indenting.{is_logical_at, start_at, AreSpaces, begins_blank, are_rising, narrower, Drops}
 use Rattle.pyparse_tokens.specs.Inner.Indenting.{Measures, Measured}
 use Rattle.pyparse_tokens.proofs.RisingLemmas.{mixed_is, stands_on}
 
--- Behind more lines
+-- After more lines
 
 pub measures : (ms more : List Margin) (old new : Indents) → Measured ms old → Measures more old new → Measured (ms ++ more) new
 measures ms more old new had gains = gains ms had
@@ -53,13 +53,13 @@ some_of None h = absurd cc
 none_some : (o : Option Refusal) (r : Refusal) → o ≡ Some r → o ≡ None → ⊥
 none_some o r is none = absurd cc
 
--- behind a mixed line none counts
-pub takes_behind : (more : List Margin) (i : Indents) → is_some i.mixed ≡ true → Measures more i i
-takes_behind more i is ms had =
+-- after a mixed line none counts
+pub takes_after : (more : List Margin) (i : Indents) → is_some i.mixed ≡ true → Measures more i i
+takes_after more i is ms had =
     let told = some_of i.mixed is in
     let first : first_mixed [] ms ≡ Some told.0 = sym had.mixed ∙ told.1 in
     record {
-      mixed = told.1 ∙ sym (mixed_on [] ms more ∙ ap (λ (r : Option Refusal). option_or r (first_mixed (behind [] ms) more)) first);
+      mixed = told.1 ∙ sym (mixed_on [] ms more ∙ ap (λ (r : Option Refusal). option_or r (first_mixed (following [] ms) more)) first);
       standing = λ none. absurd (none_some i.mixed told.0 told.1 none);
     }
 
@@ -67,12 +67,12 @@ abbrev margin : Widths → Place → Margin
 margin w p = record { widths = w; start = p }
 
 one_more : (text : List ℕ) (o : ℕ) → is_logical_at text o ≡ true
-    → margin_at text o ≡ margin (widths_of (behind_offset text o)) (start_at text o) ∷ []
+    → margin_at text o ≡ margin (widths_of (following_offset text o)) (start_at text o) ∷ []
 one_more text o logical = rw logical refl
 
 -- the first mixed line among some and one more
-mixed_one : (ms : List Margin) (m : Margin) → first_mixed [] ms ≡ None → first_mixed [] (ms ++ m ∷ []) ≡ margin_refusal (behind [] ms) m
-mixed_one ms m none = mixed_on [] ms (m ∷ []) ∙ (rw none (or_none (margin_refusal (behind [] ms) m)))
+mixed_one : (ms : List Margin) (m : Margin) → first_mixed [] ms ≡ None → first_mixed [] (ms ++ m ∷ []) ≡ margin_refusal (following [] ms) m
+mixed_one ms m none = mixed_on [] ms (m ∷ []) ∙ (rw none (or_none (margin_refusal (following [] ms) m)))
   where
     or_none : (r : Option Refusal) → option_or r None ≡ r
     or_none (Some x) = refl
@@ -80,13 +80,13 @@ mixed_one ms m none = mixed_on [] ms (m ∷ []) ∙ (rw none (or_none (margin_re
 
 -- a mixed line was taken
 pub takes_mixed : (text : List ℕ) (o : ℕ) (w : Widths) (old new : Indents) → is_logical_at text o ≡ true
-    → w ≡ widths_of (behind_offset text o)
+    → w ≡ widths_of (following_offset text o)
     → old.mixed ≡ None → (are_rising old.standing.items ≡ true → Drops old.standing.items new.standing.items w true)
     → new.mixed ≡ Some (MixedTabs (start_at text o)) → Measures (margin_at text o) old new
 takes_mixed text o w old new logical is none drops mixed ms had =
     let m = margin w (start_at text o) in
     let stood = had.standing none in
-    let met : is_mixed (behind [] ms) m ≡ true = sym (mixed_is (behind [] ms) old.standing.items m stood.same)
+    let met : is_mixed (following [] ms) m ≡ true = sym (mixed_is (following [] ms) old.standing.items m stood.same)
     ∙ sym (drops stood.rising).clash in
     let whole : margin_at text o ≡ m ∷ [] = one_more text o logical ∙ ap (λ (v : Widths). margin v (start_at text o) ∷ []) (sym is) in
     subst (λ (ls : List Margin). Measured (ms ++ ls) new) (sym whole) (record {
@@ -96,22 +96,22 @@ takes_mixed text o w old new logical is none drops mixed ms had =
 
 -- a line that isn't mixed was taken
 pub takes_line : (text : List ℕ) (o : ℕ) (w : Widths) (dropped : List Widths) (old new : Indents) → is_logical_at text o ≡ true
-    → w ≡ widths_of (behind_offset text o) → old.mixed ≡ None
+    → w ≡ widths_of (following_offset text o) → old.mixed ≡ None
     → (are_rising old.standing.items ≡ true → Drops old.standing.items dropped w false)
     → new.standing.items ≡ dropped ++ w ∷ [] → new.mixed ≡ None → Measures (margin_at text o) old new
 takes_line text o w dropped old new logical is none drops standing mixed ms had =
     let m = margin w (start_at text o) in
     let stood = had.standing none in
     let done = drops stood.rising in
-    let free : is_mixed (behind [] ms) m ≡ false = sym (mixed_is (behind [] ms) old.standing.items m stood.same) ∙ sym done.clash in
+    let free : is_mixed (following [] ms) m ≡ false = sym (mixed_is (following [] ms) old.standing.items m stood.same) ∙ sym done.clash in
     let whole : margin_at text o ≡ m ∷ [] = one_more text o logical ∙ ap (λ (v : Widths). margin v (start_at text o) ∷ []) (sym is) in
     let items : new.standing.items ≡ narrower old.standing.items w ++ w ∷ [] = standing
     ∙ ap (λ (vs : List Widths). vs ++ w ∷ []) (done.kept refl) in
-    let order : behind [] (ms ++ m ∷ []) ≡ m ∷ behind [] ms = behind_on [] ms m in
+    let order : following [] (ms ++ m ∷ []) ≡ m ∷ following [] ms = after_on [] ms m in
     subst (λ (ls : List Margin). Measured (ms ++ ls) new) (sym whole) (record {
       mixed = mixed ∙ sym (mixed_one ms m (sym had.mixed ∙ none) ∙ (rw free refl));
       standing = λ still.
-          rw (order, items) (stands_on (behind [] ms) old.standing.items m stood (sym done.clash));
+          rw (order, items) (stands_on (following [] ms) old.standing.items m stood (sym done.clash));
     })
 
 -- Blanks at the front of a text
@@ -191,49 +191,49 @@ pub record Spaced (bs : List ℕ) (n : ℕ) : Type 0 where
 
 pub spaced : (bs : List ℕ) (n : ℕ) → IsUtf8 bs → AreSpaces bs n → Spaced bs n
 spaced bs n utf8 is =
-    let behind = drop n bs in
-    let whole : replicate n 32 ++ behind ≡ bs = ap (λ (t : List ℕ). t ++ behind) (sym is.spaces) ∙ take-append-drop n bs in
-    let split : IsUtf8 (replicate n 32 ++ behind) = subst IsUtf8 (sym whole) utf8 in
-    let same : chars bs ≡ replicate n 32 ++ chars behind = ap chars (sym whole) ∙ spaces_chars n behind split in
-    let blanks : begins_blank (chars behind) ≡ false → blanks_of (chars bs) ≡ replicate n 32 =
-    λ other. ap blanks_of same ∙ spaces_blanks n (chars behind) other in
+    let following = drop n bs in
+    let whole : replicate n 32 ++ following ≡ bs = ap (λ (t : List ℕ). t ++ following) (sym is.spaces) ∙ take-append-drop n bs in
+    let split : IsUtf8 (replicate n 32 ++ following) = subst IsUtf8 (sym whole) utf8 in
+    let same : chars bs ≡ replicate n 32 ++ chars following = ap chars (sym whole) ∙ spaces_chars n following split in
+    let blanks : begins_blank (chars following) ≡ false → blanks_of (chars bs) ≡ replicate n 32 =
+    λ other. ap blanks_of same ∙ spaces_blanks n (chars following) other in
     let none : 0 + n ≡ n = omega arith in
     record {
       boundary =
           subst (IsCharBoundary bs) (length-replicate n 32)
-          (IsCharBoundary-at_seam bs (replicate n 32) behind (sym whole) (spaces_utf8 n behind split));
+          (IsCharBoundary-at_seam bs (replicate n 32) following (sym whole) (spaces_utf8 n following split));
       widths = λ other.
           sym (ap₂ widths_by (ap (width_from 0) (blanks other) ∙ eight_spaces 0 n ∙ none) (ap (width_by_one 0) (blanks other)
           ∙ one_spaces 0 n ∙ none));
       rest = λ other.
           ap₂ (λ (b t : List ℕ). drop (length b) t) (blanks other) same
-          ∙ ap (λ (k : ℕ). drop k (replicate n 32 ++ chars behind)) (length-replicate n 32) ∙ behind_spaces n (chars behind);
+          ∙ ap (λ (k : ℕ). drop k (replicate n 32 ++ chars following)) (length-replicate n 32) ∙ after_spaces n (chars following);
     }
 
 -- The line that begins at an offset
 
 -- it, by the text's bytes
-pub line_of : (bs source : List ℕ) (o : ℕ) → IsUtf8 bs → bs ≡ source → chars (drop o bs) ≡ behind_offset (chars source) o
+pub line_of : (bs source : List ℕ) (o : ℕ) → IsUtf8 bs → bs ≡ source → chars (drop o bs) ≡ following_offset (chars source) o
 line_of bs source o utf8 is = ap (λ (t : List ℕ). chars (drop o t)) (sym (encodes-chars bs utf8))
-    ∙ ap (λ (t : List ℕ). behind_offset (chars t) o) is
+    ∙ ap (λ (t : List ℕ). following_offset (chars t) o) is
 
 pub whole_of : (bs source : List ℕ) → IsUtf8 bs → bs ≡ source → bs ≡ encode_utf8_all (chars source)
 whole_of bs source utf8 is = sym (encodes-chars bs utf8) ∙ ap (λ (t : List ℕ). encode_utf8_all (chars t)) is
 
--- where some bytes end that stand behind an offset
-pub record Seam (bs behind : List ℕ) (place : ℕ) : Type 0 where
-  pub boundary : IsCharBoundary bs (length bs - length behind)
-  pub at : length bs - length behind ≡ place
+-- where some bytes end that stand after an offset
+pub record Seam (bs following : List ℕ) (place : ℕ) : Type 0 where
+  pub boundary : IsCharBoundary bs (length bs - length following)
+  pub at : length bs - length following ≡ place
 
-pub seam : (bs line front behind : List ℕ) (o : ℕ) → o ≤ length bs → line ≡ drop o bs → line ≡ front ++ behind → IsUtf8 behind →
-    Seam bs behind (o + length front)
-seam bs line front behind o within is cut utf8 =
+pub seam : (bs line front following : List ℕ) (o : ℕ) → o ≤ length bs → line ≡ drop o bs → line ≡ front ++ following → IsUtf8 following →
+    Seam bs following (o + length front)
+seam bs line front following o within is cut utf8 =
     let before = take o bs ++ front in
-    let whole : bs ≡ before ++ behind =
-    sym (take-append-drop o bs) ∙ ap (λ (t : List ℕ). take o bs ++ t) (sym is ∙ cut) ∙ sym (append_assoc (take o bs) front behind) in
+    let whole : bs ≡ before ++ following =
+    sym (take-append-drop o bs) ∙ ap (λ (t : List ℕ). take o bs ++ t) (sym is ∙ cut) ∙ sym (append_assoc (take o bs) front following) in
     let size : length before ≡ o + length front = omega (arith, length-append (take o bs) front, length-take o bs, within) in
-    let place : length bs - length behind ≡ length before = omega (arith, ap length whole, length-append before behind) in
+    let place : length bs - length following ≡ length before = omega (arith, ap length whole, length-append before following) in
     record {
-      boundary = subst (IsCharBoundary bs) (sym place) (IsCharBoundary-at_seam bs before behind whole utf8);
+      boundary = subst (IsCharBoundary bs) (sym place) (IsCharBoundary-at_seam bs before following whole utf8);
       at = place ∙ size;
     }

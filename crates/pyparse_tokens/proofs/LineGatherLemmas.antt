@@ -12,7 +12,7 @@ use Rattle.pysource.specs.Parts.{Parts}
 use Rattle.pylex_listing.specs.declared.kind.Kind.{Kind}
 use Rattle.pylex_listing.specs.declared.kind.Kind.TheVariants as kinds
 use Rattle.pylex_listing.specs.declared.entries.Entry.{Entry}
-use Rattle.pytoken.specs.Inner.Behind.{behind}
+use Rattle.pytoken.specs.Inner.Following.{following}
 use Rattle.pytoken.specs.Terminals
 use Rattle.pylex_listing.specs.declared.entries.Step.{Step}
 use Rattle.pylex_listing.specs.declared.entries.Step.TheVariants as steps
@@ -21,7 +21,7 @@ use Rattle.pylex_listing.specs.Listing.{Source, in_characters, listing}
 use Rattle.pylex.specs.Listers.{Listed, StandsIn, NextStep}
 use Rattle.pylex.proofs.Callers.{entry_lies}
 use Rattle.pylex_listing.specs.Steps.{entries_of, most_entries}
-use Rattle.pytoken.specs.Tokens.{Token, Line, text_of, token_of, is_open, level_behind, tokens_from, lines_from, tokens, lines}
+use Rattle.pytoken.specs.Tokens.{Token, Line, text_of, token_of, is_open, level_after, tokens_from, lines_from, tokens, lines}
 use Rattle.pytoken.specs.Refusals.{entry_refusal}
 use Rattle.pytoken.specs.TerminalOf.{terminal}
 use Rattle.pytoken.specs.declared.values.terminals.Terminal.{Terminal}
@@ -31,7 +31,7 @@ use Rattle.pyparse_tokens.specs.declared.open_line.OpenLine.{OpenLine}
 use Rattle.pyparse_tokens.specs.LineReadings.{first_start, token_terminals, lines_within}
 use Rattle.pyparse_tokens.specs.Inner.Passing.{counted, still_open, kept_refusal}
 use Rattle.pyparse_tokens.specs.Inner.LineGathering.{stands_in_line, ends_open_line, ended_by, is_indent, is_dedent, own_terminals}
-use Rattle.pyparse_tokens.specs.Inner.LineGathering.{line_behind, front_tokens, front_line, front_lines, Adds, TakesEntry, Counts, StandsAt}
+use Rattle.pyparse_tokens.specs.Inner.LineGathering.{line_following, front_tokens, front_line, front_lines, Adds, TakesEntry, Counts, StandsAt}
 use Rattle.pyparse_tokens.specs.Inner.LineGathering.{ReadsLine}
 use Rattle.pyparse_tokens.specs.Inner.OpenLines.{of_first, first_text, KeepsLine}
 use Rattle.pyparse_tokens.proofs.PassLemmas.{passes, kept_before}
@@ -49,7 +49,7 @@ pub counts : (text : List ℕ) (es : List Entry) (e : Entry) (old new : LineGath
     Counts text (es ++ e ∷ []) new
 counts text es e old new had gains =
     let size : length (es ++ e ∷ []) ≡ length es + 1 = length-append es (e ∷ []) in
-    let begun = is_open (behind [] es) in
+    let begun = is_open (following [] es) in
     let indents = counted_few old.indents (length es) (is_indent e.kind) had.few_indents in
     let dedents = counted_few old.dedents (length es) (is_dedent e.kind) had.few_dedents in
     record {
@@ -145,10 +145,10 @@ keeps extent text e line old new had sound adds = by (stands_in_line e.kind) ref
 
 -- the line that ends by an entry
 abbrev pub line_at : List ℕ → List Entry → Line
-line_at text es = record { level = level_behind (behind [] (front_tokens text es)); tokens = front_line text es }
+line_at text es = record { level = level_after (following [] (front_tokens text es)); tokens = front_line text es }
 
 pub lines_more : (s : Source) (k : ℕ) (e : Entry) → (ended : Bool)
-    → ended_by e (is_open (behind [] (take k (entries_of (listing s))))) ≡ ended
+    → ended_by e (is_open (following [] (take k (entries_of (listing s))))) ≡ ended
     → take (k + 1) (entries_of (listing s)) ≡ take k (entries_of (listing s)) ++ e ∷ []
     → lines_within s (k + 1) ≡ lines_within s k ++ (if ended then line_at s.text (take k (entries_of (listing s))) ∷ [] else [])
 lines_more s k e ended is next =
@@ -156,9 +156,9 @@ lines_more s k e ended is next =
     ap (front_lines s.text) next ∙ lines_on s.text read e
     ∙ ap (λ (b : Bool). front_lines s.text read ++ (if b then line_at s.text read ∷ [] else [])) is
 
-get_at : (before behind : List Line) (l : Line) → slice_get ((before ++ l ∷ []) ++ behind) (length before) ≡ Some l
-get_at [] behind l = refl
-get_at (x ∷ before) behind l = get_at before behind l
+get_at : (before following : List Line) (l : Line) → slice_get ((before ++ l ∷ []) ++ following) (length before) ≡ Some l
+get_at [] following l = refl
+get_at (x ∷ before) following l = get_at before following l
 
 -- it is a line of the source
 pub line_stands : (s : Source) (k : ℕ) (l : Line) → lines_within s (k + 1) ≡ lines_within s k ++ l ∷ []
@@ -169,17 +169,17 @@ line_stands s k l next =
     let front = take (k + 1) es in
     let rest = drop (k + 1) es in
     let ts = front_tokens s.text front in
-    let more = tokens_from s.text (behind [] front) rest in
+    let more = tokens_from s.text (following [] front) rest in
     let whole =
     ap (λ (es : List Entry). lines_from [] [] (tokens_from s.text [] es)) (sym (take-append-drop (k + 1) es))
     ∙ ap (lines_from [] []) (tokens_past s.text [] front rest)
     ∙ lines_past [] [] ts more
-    ∙ ap (λ (ls : List Line). ls ++ lines_from (behind [] ts) (line_behind [] ts) more) next
+    ∙ ap (λ (ls : List Line). ls ++ lines_from (following [] ts) (line_following [] ts) more) next
     in
     ap (λ (ls : List Line). slice_get ls (length (lines_within s k))) whole
-    ∙ get_at (lines_within s k) (lines_from (behind [] ts) (line_behind [] ts) more) l
+    ∙ get_at (lines_within s k) (lines_from (following [] ts) (line_following [] ts) more) l
 
--- behind all entries
+-- after all entries
 pub all_lines : (s : Source) (k : ℕ) → take k (entries_of (listing s)) ≡ entries_of (listing s) → lines_within s k ≡ lines s
 unfolding tokens lines
 all_lines s k all = ap (front_lines s.text) all
@@ -275,7 +275,7 @@ same_line p old new e g h had read gains goes none keep =
     let es = entries_of (listing (in_characters p)) in
     let front = take old.shown.given es in
     let before = none_before p old e g h had gains none in
-    let ended : ended_by e (is_open (behind [] front)) ≡ false = ap (ended_by e) (sym had.counts.pass.begun) ∙ goes in
+    let ended : ended_by e (is_open (following [] front)) ≡ false = ap (ended_by e) (sym had.counts.pass.begun) ∙ goes in
     let line : front_line text (take new.shown.given es) ≡ with_own text e (front_line text front) =
     ap (λ (n : ℕ). front_line text (take n es)) read.count ∙ ap (front_line text) read.grown ∙ line_on text front e
     ∙ ap (λ (b : Bool). if b then [] else with_own text e (front_line text front)) ended
@@ -325,7 +325,7 @@ line_read p first old new e g h had read few source gains ends none keep same =
     let k = old.shown.given in
     let front = take k es in
     let line = front_line text front in
-    let ended : ended_by e (is_open (behind [] front)) ≡ true = ap (ended_by e) (sym had.counts.pass.begun) ∙ ends in
+    let ended : ended_by e (is_open (following [] front)) ≡ true = ap (ended_by e) (sym had.counts.pass.begun) ∙ ends in
     let parts = and_parts (ends_open_line e.kind) g.pass.begun ends in
     let before = none_before p old e g h had gains none in
     let beside : with_own text e line ≡ line = ap (λ (b : Bool). if b then line ++ token_of text e ∷ [] else line)

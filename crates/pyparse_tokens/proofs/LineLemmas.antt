@@ -1,26 +1,26 @@
 -- Carries: read_line. On: the tokens and the logical lines of a front of a listing, with one entry
--- more, and what stands behind it.
+-- more, and what stands after it.
 use Rattle.std.proofs.Common.{◌≡◌, ℕ, ◌<◌, Bool, true, false, List, [], ◌∷◌, ◌++◌, length, refl, sym, ap, ◌∙◌, append_assoc, arith}
 use Rattle.std.proofs.Common.{length-append}
 use Rattle.std.specs.Prelude.{count_by, if◌then◌else◌}
 use Rattle.pylex_listing.specs.declared.kind.Kind.{Kind}
 use Rattle.pylex_listing.specs.declared.kind.Kind.TheVariants as kinds
 use Rattle.pylex_listing.specs.declared.entries.Entry.{Entry}
-use Rattle.pytoken.specs.Inner.Behind.{behind}
-use Rattle.pytoken.specs.Tokens.{Token, Line, text_of, token_of, supplied, is_open, tokens_of_entry, tokens_from, level_behind, lines_from}
+use Rattle.pytoken.specs.Inner.Following.{following}
+use Rattle.pytoken.specs.Tokens.{Token, Line, text_of, token_of, supplied, is_open, tokens_of_entry, tokens_from, level_after, lines_from}
 use Rattle.pytoken.proofs.Callers.OnePass.{tokens_on}
 use Rattle.pyparse_tokens.specs.Inner.Passing.{counted, still_open}
 use Rattle.pyparse_tokens.proofs.PassLemmas.{count_on}
-use Rattle.pyparse_tokens.specs.Inner.LineGathering.{stands_in_line, ended_by, line_behind, front_tokens, front_line, front_lines}
+use Rattle.pyparse_tokens.specs.Inner.LineGathering.{stands_in_line, ended_by, line_following, front_tokens, front_line, front_lines}
 
--- the tokens of the entries of a front, and those of what stands behind it
+-- the tokens of the entries of a front, and those of what stands after it
 pub tokens_past : (text : List ℕ) (before es more : List Entry)
-    → tokens_from text before (es ++ more) ≡ tokens_from text before es ++ tokens_from text (behind before es) more
+    → tokens_from text before (es ++ more) ≡ tokens_from text before es ++ tokens_from text (following before es) more
 tokens_past text before [] more = refl
 tokens_past text before (e ∷ es) more =
     let here = tokens_of_entry text (is_open before) e in
     ap (λ (ts : List Token). here ++ ts) (tokens_past text (e ∷ before) es more)
-    ∙ sym (append_assoc here (tokens_from text (e ∷ before) es) (tokens_from text (behind (e ∷ before) es) more))
+    ∙ sym (append_assoc here (tokens_from text (e ∷ before) es) (tokens_from text (following (e ∷ before) es) more))
 
 -- what a token of this type does to a line: it ends it, it stands beside it, or it is put to it
 abbrev by_kind : {X : Type 0} → Kind → X → X → X → X
@@ -32,18 +32,18 @@ by_kind k ended beside put = elim k [
   | _ ↦ put
 ]
 
--- the lines of a front of the tokens, and those of what stands behind it
+-- the lines of a front of the tokens, and those of what stands after it
 pub lines_past : (before line ts more : List Token)
-    → lines_from before line (ts ++ more) ≡ lines_from before line ts ++ lines_from (behind before ts) (line_behind line ts) more
+    → lines_from before line (ts ++ more) ≡ lines_from before line ts ++ lines_from (following before ts) (line_following line ts) more
 lines_past before line [] more = refl
 lines_past before line (t ∷ ts) more =
-    let rest : List Token → List Line = λ l. lines_from (behind (t ∷ before) ts) l more in
+    let rest : List Token → List Line = λ l. lines_from (following (t ∷ before) ts) l more in
     let all : List Token → List Line = λ l. lines_from (t ∷ before) l (ts ++ more) in
     let here : List Token → List Line = λ l. lines_from (t ∷ before) l ts in
-    by t.kind (record { level = level_behind before; tokens = line }) rest
-    (all []) (here []) (line_behind [] ts) (lines_past (t ∷ before) [] ts more)
-    (all line) (here line) (line_behind line ts) (lines_past (t ∷ before) line ts more)
-    (all (line ++ t ∷ [])) (here (line ++ t ∷ [])) (line_behind (line ++ t ∷ []) ts) (lines_past (t ∷ before) (line ++ t ∷ []) ts more)
+    by t.kind (record { level = level_after before; tokens = line }) rest
+    (all []) (here []) (line_following [] ts) (lines_past (t ∷ before) [] ts more)
+    (all line) (here line) (line_following line ts) (lines_past (t ∷ before) line ts more)
+    (all (line ++ t ∷ [])) (here (line ++ t ∷ [])) (line_following (line ++ t ∷ []) ts) (lines_past (t ∷ before) (line ++ t ∷ []) ts more)
   where
     by : (k : Kind) (own : Line) (rest : List Token → List Line)
         (all0 here0 : List Line) (left0 : List Token) → all0 ≡ here0 ++ rest left0
@@ -63,12 +63,12 @@ lines_past before line (t ∷ ts) more =
     by kinds.Op own rest a0 b0 c0 h0 a1 b1 c1 h1 a2 b2 c2 h2 = h2
 
 -- and the open line
-pub line_past : (line ts more : List Token) → line_behind line (ts ++ more) ≡ line_behind (line_behind line ts) more
+pub line_past : (line ts more : List Token) → line_following line (ts ++ more) ≡ line_following (line_following line ts) more
 line_past line [] more = refl
 line_past line (t ∷ ts) more =
-    let all : List Token → List Token = λ l. line_behind l (ts ++ more) in
-    let here : List Token → List Token = λ l. line_behind l ts in
-    by t.kind (λ l. line_behind l more) (all []) (here []) (line_past [] ts more) (all line) (here line) (line_past line ts more)
+    let all : List Token → List Token = λ l. line_following l (ts ++ more) in
+    let here : List Token → List Token = λ l. line_following l ts in
+    by t.kind (λ l. line_following l more) (all []) (here []) (line_past [] ts more) (all line) (here line) (line_past line ts more)
     (all (line ++ t ∷ [])) (here (line ++ t ∷ [])) (line_past (line ++ t ∷ []) ts more)
   where
     by : (k : Kind) (rest : List Token → List Token) (all0 here0 : List Token) → all0 ≡ rest here0
@@ -93,11 +93,11 @@ with_own text e line = if stands_in_line e.kind then line ++ token_of text e ∷
 
 -- what an entry does to the line that is open
 line_by : (text : List ℕ) (begun : Bool) (e : Entry) (line : List Token)
-    → line_behind line (tokens_of_entry text begun e) ≡ (if ended_by e begun then [] else with_own text e line)
+    → line_following line (tokens_of_entry text begun e) ≡ (if ended_by e begun then [] else with_own text e line)
 line_by text begun e line = by begun e.kind refl
   where
     by : (b : Bool) (k : Kind) → e.kind ≡ k
-        → line_behind line (tokens_of_entry text b e) ≡ (if ended_by e b then [] else with_own text e line)
+        → line_following line (tokens_of_entry text b e) ≡ (if ended_by e b then [] else with_own text e line)
     by true kinds.Newline is = rw is refl
     by false kinds.Newline is = rw is refl
     by true kinds.Dedent is = rw is refl
@@ -116,14 +116,14 @@ line_by text begun e line = by begun e.kind refl
 -- and which line ends by it
 lines_by : (text : List ℕ) (begun : Bool) (e : Entry) (before line : List Token)
     → lines_from before line (tokens_of_entry text begun e) ≡ (if ended_by e begun then record {
-      level = level_behind before;
+      level = level_after before;
       tokens = line;
     } ∷ [] else [])
 lines_by text begun e before line = by begun e.kind refl
   where
     by : (b : Bool) (k : Kind) → e.kind ≡ k
         → lines_from before line (tokens_of_entry text b e) ≡ (if ended_by e b then record {
-          level = level_behind before;
+          level = level_after before;
           tokens = line;
         } ∷ [] else [])
     by true kinds.Newline is = rw is refl
@@ -141,31 +141,31 @@ lines_by text begun e before line = by begun e.kind refl
     by b kinds.String is = rw is refl
     by b kinds.Op is = rw is refl
 
-behind_past : (before ts more : List Token) → behind before (ts ++ more) ≡ behind (behind before ts) more
-behind_past before [] more = refl
-behind_past before (t ∷ ts) more = behind_past (t ∷ before) ts more
+after_past : (before ts more : List Token) → following before (ts ++ more) ≡ following (following before ts) more
+after_past before [] more = refl
+after_past before (t ∷ ts) more = after_past (t ∷ before) ts more
 
 pub line_on : (text : List ℕ) (es : List Entry) (e : Entry)
-    → front_line text (es ++ e ∷ []) ≡ (if ended_by e (is_open (behind [] es)) then [] else with_own text e (front_line text es))
+    → front_line text (es ++ e ∷ []) ≡ (if ended_by e (is_open (following [] es)) then [] else with_own text e (front_line text es))
 line_on text es e =
-    let begun = is_open (behind [] es) in
-    ap (line_behind []) (tokens_on text [] es e)
+    let begun = is_open (following [] es) in
+    ap (line_following []) (tokens_on text [] es e)
     ∙ line_past [] (front_tokens text es) (tokens_of_entry text begun e)
     ∙ line_by text begun e (front_line text es)
 
 pub lines_on : (text : List ℕ) (es : List Entry) (e : Entry)
     → front_lines text (es ++ e ∷ []) ≡ front_lines text es
-    ++ (if ended_by e (is_open (behind [] es)) then record {
-      level = level_behind (behind [] (front_tokens text es));
+    ++ (if ended_by e (is_open (following [] es)) then record {
+      level = level_after (following [] (front_tokens text es));
       tokens =
           front_line text es;
     } ∷ [] else [])
 lines_on text es e =
-    let begun = is_open (behind [] es) in
+    let begun = is_open (following [] es) in
     let ts = front_tokens text es in
     ap (lines_from [] []) (tokens_on text [] es e)
     ∙ lines_past [] [] ts (tokens_of_entry text begun e)
-    ∙ ap (λ (ls : List Line). front_lines text es ++ ls) (lines_by text begun e (behind [] ts) (front_line text es))
+    ∙ ap (λ (ls : List Line). front_lines text es ++ ls) (lines_by text begun e (following [] ts) (front_line text es))
 
 -- so many tokens of a type
 abbrev pub tally : (Kind → Bool) → List Token → ℕ
@@ -174,7 +174,7 @@ tally p ts = count_by (λ t. p t.kind) ts
 -- the tokens of an entry: none of them is counted but its own
 tally_by : (p : Kind → Bool) → p kinds.Newline ≡ false → p kinds.Encoding ≡ false → p kinds.Comment ≡ false → p kinds.Nl ≡ false
     → (text : List ℕ) (begun : Bool) (e : Entry) (before : List Token)
-    → tally p (behind before (tokens_of_entry text begun e)) ≡ counted (tally p before) (p e.kind)
+    → tally p (following before (tokens_of_entry text begun e)) ≡ counted (tally p before) (p e.kind)
 tally_by p newline encoding comment nl text begun e before = by begun e.kind refl
   where
     none : (k : Kind) → p k ≡ false → tally p before ≡ counted (tally p before) (p k)
@@ -187,18 +187,18 @@ tally_by p newline encoding comment nl text begun e before = by begun e.kind ref
         counted (tally p ts) (p k)
     own ts k = one ts (record { kind = k; start = e.start; text = text_of text e })
 
-    behind_newline : (k : Kind) → tally p (record { kind = k; start = e.start; text = text_of text e } ∷ supplied text ∷ before) ≡
+    after_newline : (k : Kind) → tally p (record { kind = k; start = e.start; text = text_of text e } ∷ supplied text ∷ before) ≡
         counted (tally p before) (p k)
-    behind_newline k =
+    after_newline k =
         own (supplied text ∷ before) k ∙ ap (λ (n : ℕ). counted n (p k)) (one before (supplied text)
         ∙ ap (counted (tally p before)) newline)
 
-    by : (b : Bool) (k : Kind) → e.kind ≡ k → tally p (behind before (tokens_of_entry text b e)) ≡ counted (tally p before) (p e.kind)
+    by : (b : Bool) (k : Kind) → e.kind ≡ k → tally p (following before (tokens_of_entry text b e)) ≡ counted (tally p before) (p e.kind)
     by true kinds.Newline is = rw is (own before kinds.Newline)
     by false kinds.Newline is = rw is (none kinds.Newline newline)
-    by true kinds.Dedent is = rw is (behind_newline kinds.Dedent)
+    by true kinds.Dedent is = rw is (after_newline kinds.Dedent)
     by false kinds.Dedent is = rw is (own before kinds.Dedent)
-    by true kinds.EndMarker is = rw is (behind_newline kinds.EndMarker)
+    by true kinds.EndMarker is = rw is (after_newline kinds.EndMarker)
     by false kinds.EndMarker is = rw is (own before kinds.EndMarker)
     by b kinds.Indent is = rw is (own before kinds.Indent)
     by b kinds.Encoding is = rw is (none kinds.Encoding encoding)
@@ -211,13 +211,13 @@ tally_by p newline encoding comment nl text begun e before = by begun e.kind ref
 
 pub tally_past : (p : Kind → Bool) → p kinds.Newline ≡ false → p kinds.Encoding ≡ false → p kinds.Comment ≡ false → p kinds.Nl ≡ false
     → (text : List ℕ) (es : List Entry) (e : Entry)
-    → tally p (behind [] (front_tokens text (es ++ e ∷ []))) ≡ counted (tally p (behind [] (front_tokens text es))) (p e.kind)
+    → tally p (following [] (front_tokens text (es ++ e ∷ []))) ≡ counted (tally p (following [] (front_tokens text es))) (p e.kind)
 tally_past p newline encoding comment nl text es e =
-    let begun = is_open (behind [] es) in
+    let begun = is_open (following [] es) in
     let ts = front_tokens text es in
-    ap (λ (ts : List Token). tally p (behind [] ts)) (tokens_on text [] es e)
-    ∙ ap (tally p) (behind_past [] ts (tokens_of_entry text begun e))
-    ∙ tally_by p newline encoding comment nl text begun e (behind [] ts)
+    ap (λ (ts : List Token). tally p (following [] ts)) (tokens_on text [] es e)
+    ∙ ap (tally p) (after_past [] ts (tokens_of_entry text begun e))
+    ∙ tally_by p newline encoding comment nl text begun e (following [] ts)
 
 -- a line with tokens has one
 pub some_by : (text : List ℕ) (e : Entry) (begun : Bool) (line : List Token) → (begun ≡ true → 0 < length line)

@@ -66,7 +66,7 @@ begins_here p l s g was at shown within some begun kept =
       marks = λ start keep. subst (λ (x : Listed). KeepsMarks p x g start was) (sym here) keep;
     }
 
--- Behind the token that begins a line.
+-- After the token that begins a line.
 module _ (p : Parts) (l : Listed) (g h : LineGather) (was now : Option (List Span)) (k : Class) (own : List ℕ) (start : Place) (s : Spot)
     (at : StandsAt p l g) (b : BeginsLine l k own start s)
     (takes : TakesStart (kind_of k true) (operator_of k) (chars own) start g h) where

@@ -23,7 +23,7 @@ use Rattle.pylex.specs.Listers.{Listed, NextStep}
 use Rattle.pylex.specs.Spots.{at_spot, Steps}
 use Rattle.pylex_listing.specs.EntryKinds.{kind_of}
 use Rattle.pylex_listing.specs.Steps.{entries_of}
-use Rattle.pytoken.specs.Inner.Behind.{behind}
+use Rattle.pytoken.specs.Inner.Following.{following}
 use Rattle.pytoken.specs.Tokens.{Token, Line, text_of, token_of, is_open, lines}
 use Rattle.pyparse_marks.specs.Spans.{Span, added}
 use Rattle.pyparse_marks.specs.TokenSpans.{token_spans}
@@ -82,7 +82,7 @@ marks_on p old new e g h start was now had read gains goes starts keep is = λ n
     let es = entries_of (listing (in_characters p)) in
     let front = take old.shown.given es in
     let before = none_before p old e g h had gains none in
-    let ended : ended_by e (is_open (behind [] front)) ≡ false = ap (ended_by e) (sym had.counts.pass.begun) ∙ goes in
+    let ended : ended_by e (is_open (following [] front)) ≡ false = ap (ended_by e) (sym had.counts.pass.begun) ∙ goes in
     let line : front_line text (take new.shown.given es) ≡ with_own text e (front_line text front) =
     ap (λ (n : ℕ). front_line text (take n es)) read.count ∙ ap (front_line text) read.grown ∙ line_on text front e
     ∙ ap (λ (b : Bool). if b then [] else with_own text e (front_line text front)) ended
@@ -102,7 +102,7 @@ marks_end p first old new e g h start was now had read gains ends none keep is =
     let k = old.shown.given in
     let front = take k (entries_of (listing s)) in
     let before = none_before p old e g h had.at gains none in
-    let ended : ended_by e (is_open (behind [] front)) ≡ true = ap (ended_by e) (sym had.at.counts.pass.begun) ∙ ends in
+    let ended : ended_by e (is_open (following [] front)) ≡ true = ap (ended_by e) (sym had.at.counts.pass.begun) ∙ ends in
     let parts = and_parts (ends_open_line e.kind) g.pass.begun ends in
     let own : entry_spans text e ≡ [] = ap (λ (b : Bool). if b then token_spans e.«from» e.kind (text_of text e) else [])
     (stands_beside e.kind parts.0) in

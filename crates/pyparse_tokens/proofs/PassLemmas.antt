@@ -13,10 +13,10 @@ use Rattle.pytoken.specs.declared.refusals.Refusal.{Refusal}
 use Rattle.pytoken.specs.declared.refusals.Refusal.TheVariants as refusals
 use Rattle.pytoken.specs.Brackets.{opens, closes}
 use Rattle.pytoken.specs.Indentation.{Margin, margin_at, margins_from, margins}
-use Rattle.pytoken.specs.Inner.Behind.{behind}
+use Rattle.pytoken.specs.Inner.Following.{following}
 use Rattle.pytoken.specs.Tokens.{is_open}
 use Rattle.pytoken.specs.Refusals.{most_brackets, entry_refusal, first_entry_refusal, first_too_deep, first_mixed, refusal_at, refusal}
-use Rattle.pytoken.proofs.Callers.OnePass.{behind_on, refusal_on, too_deep_on, mixed_on, margins_of_entry, margins_on}
+use Rattle.pytoken.proofs.Callers.OnePass.{after_on, refusal_on, too_deep_on, mixed_on, margins_of_entry, margins_on}
 use Rattle.pyparse_tokens.specs.declared.pass.Pass.{Pass}
 use Rattle.pyparse_tokens.specs.Inner.Passing.{still_open, exceeding, counted, given_margins, kept_refusal, Gains, Passed}
 use Rattle.pyparse_tokens.specs.Inner.Indenting.{Measures, Measured}
@@ -32,22 +32,22 @@ count_on p es e = by (p e) ∙ sym (sum_by-cons (λ x. if p x then 1 else 0) e e
     by false = omega arith
 
 margins_more : (text : List ℕ) (es : List Entry) (e : Entry) → margins text (es ++ e ∷ []) ≡ margins text es ++
-    margins_of_entry text (behind [] es) e
+    margins_of_entry text (following [] es) e
 margins_more text es e =
     ap (λ (ms : List Margin). margin_at text 0 ++ ms) (margins_on text [] es e)
-    ∙ sym (append_assoc (margin_at text 0) (margins_from text [] es) (margins_of_entry text (behind [] es) e))
+    ∙ sym (append_assoc (margin_at text 0) (margins_from text [] es) (margins_of_entry text (following [] es) e))
 
 -- one entry more
 pub passes : (text : List ℕ) (es : List Entry) (e : Entry) (old new : Pass) → Passed text es old
     → Gains text e (entry_refusal old.extent text e) old new →
     Passed text (es ++ e ∷ []) new
 passes text es e old new had gains =
-    let order = behind_on [] es e in
+    let order = after_on [] es e in
     record {
       begun = gains.begun ∙ ap (still_open e.kind) had.begun ∙ sym (ap is_open order);
-      opened = gains.opened ∙ ap (λ (n : ℕ). counted n (opens e)) had.opened ∙ count_on opens (behind [] es) e
+      opened = gains.opened ∙ ap (λ (n : ℕ). counted n (opens e)) had.opened ∙ count_on opens (following [] es) e
           ∙ sym (ap (count_by opens) order);
-      closed = gains.closed ∙ ap (λ (n : ℕ). counted n (closes e)) had.closed ∙ count_on closes (behind [] es) e
+      closed = gains.closed ∙ ap (λ (n : ℕ). counted n (closes e)) had.closed ∙ count_on closes (following [] es) e
           ∙ sym (ap (count_by closes) order);
       faulty =
           gains.faulty
@@ -61,7 +61,7 @@ passes text es e old new had gains =
           ∙ sym (too_deep_on most_brackets [] es e);
       indents =
           subst (λ (ms : List Margin). Measured ms new.indents) (sym (margins_more text es e))
-          (measures (margins text es) (margins_of_entry text (behind [] es) e) old.indents new.indents had.indents
+          (measures (margins text es) (margins_of_entry text (following [] es) e) old.indents new.indents had.indents
           (subst (λ (ms : List Margin). Measures ms old.indents new.indents)
           (ap₂ (given_margins text e) had.opened had.closed) gains.indents));
     }
@@ -77,7 +77,7 @@ kept_before text es e own old new had gains none =
     let b = parts new.deep new.indents.mixed a.1 in
     let faulty = parts old.faulty own (sym gains.faulty ∙ a.0) in
     let deep = parts old.deep (exceeding e old.opened old.closed) (sym gains.deep ∙ b.0) in
-    let mix = parts (first_mixed [] (margins text es)) (first_mixed (behind [] (margins text es)) more) (sym mixed ∙ b.1) in
+    let mix = parts (first_mixed [] (margins text es)) (first_mixed (following [] (margins text es)) more) (sym mixed ∙ b.1) in
     (rw (faulty.0, deep.0) (had.indents.mixed ∙ mix.0), faulty.1)
   where
     parts : (a b : Option Refusal) → option_or a b ≡ None → (a ≡ None) × (b ≡ None)
@@ -86,18 +86,18 @@ kept_before text es e own old new had gains none =
 
 -- no more are counted than entries were read
 
-length_behind : (before es : List Entry) → length (behind before es) ≡ length before + length es
-length_behind before [] = omega arith
-length_behind before (e ∷ es) = let rest = length_behind (e ∷ before) es in omega (arith, rest)
+length_after : (before es : List Entry) → length (following before es) ≡ length before + length es
+length_after before [] = omega arith
+length_after before (e ∷ es) = let rest = length_after (e ∷ before) es in omega (arith, rest)
 
 pub few : (text : List ℕ) (es : List Entry) (p : Pass) → Passed text es p → (p.opened ≤ length es) × (p.closed ≤ length es)
 few text es p had =
-    let size = length_behind [] es in (
-      omega (arith, had.opened, count_by-le-length opens (behind [] es), size),
-      omega (arith, had.closed, count_by-le-length closes (behind [] es), size),
+    let size = length_after [] es in (
+      omega (arith, had.opened, count_by-le-length opens (following [] es), size),
+      omega (arith, had.closed, count_by-le-length closes (following [] es), size),
     )
 
--- behind all entries
+-- after all entries
 
 pub all_refusals : (extent : Extent) (s : Source) (es : List Entry) (p : Pass) → p.extent ≡ extent → Passed s.text es p
     → es ≡ entries_of (listing s) → fault_of (listing s) ≡ None →

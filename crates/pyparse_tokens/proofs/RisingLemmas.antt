@@ -239,7 +239,7 @@ drops_on start ws v w had alike not_below = record {
   rising = λ h. (rising_pop ws v (had.rising h)).0;
 }
 
--- the last of some lines stands behind the others
+-- the last of some lines stands after the others
 pub last_of : (ws : List Widths) (v : Widths) → Some v ≡ slice_get ws (length ws - 1) → ws ≡ take (length ws - 1) ws ++ v ∷ []
 last_of [] v h = absurd cc
 last_of (u ∷ ws) v h =

@@ -33,7 +33,7 @@ use Rattle.pyparse_tokens.specs.declared.line_gather.LineGather.{LineGather}
 use Rattle.pyparse_tokens.specs.Inner.Indenting.{Measured, Measures}
 use Rattle.pyparse_tokens.specs.Inner.Passing.{still_open, line_ends, exceeding, Gains}
 use Rattle.pyparse_tokens.specs.Inner.OpenLines.{of_first, Pushes}
-use Rattle.pyparse_tokens.specs.Inner.LineGathering.{stands_in_line, ends_open_line, is_indent, is_dedent, marker_behind, own_terminals}
+use Rattle.pyparse_tokens.specs.Inner.LineGathering.{stands_in_line, ends_open_line, is_indent, is_dedent, marker_after, own_terminals}
 use Rattle.pyparse_tokens.specs.Inner.LineGathering.{Adds, TakesEntry}
 use Rattle.pyparse_tokens.specs.Inner.LineBeginning.{TakesStart}
 use Rattle.pyparse_tokens.specs.Inner.Walking.{IsEntry, Takes, line_end_kind, TakesLineEnd, TakesLexeme, PassesOperator}
@@ -82,7 +82,7 @@ record IsWithin (k : Kind) : Type 0 where
   pub inner : (opened closed : ℕ) → line_ends k opened closed ≡ false
   pub indent : is_indent k ≡ false
   pub dedent : is_dedent k ≡ false
-  pub marker : (e : Entry) (p : Place) → e.kind ≡ k → marker_behind e p ≡ p
+  pub marker : (e : Entry) (p : Place) → e.kind ≡ k → marker_after e p ≡ p
 
 -- ---- What is kept of the line.
 
@@ -90,7 +90,7 @@ of_first_some : {A : Type 0} (ts : List Terminal) (p q : A) → 0 < length ts �
 of_first_some [] p q some = absurd (omega (arith, some))
 of_first_some (t ∷ ts) p q some = refl
 
--- behind the first token no place counts
+-- after the first token no place counts
 later : (p q : Place) (own mine : List ℕ) (ts : List Terminals.Terminal) (old new : OpenLine)
     → 0 < length old.terminals.items → own ≡ mine →
     Pushes p own ts old new → Pushes q mine ts old new
@@ -146,7 +146,7 @@ pushes_as p q own mine ts us old new place text same pushes =
     subst (λ (r : Place). Pushes r mine us old new) place
     (subst (λ (t : List ℕ). Pushes p t us old new) text (subst (λ (vs : List Terminals.Terminal). Pushes p own vs old new) same pushes))
 
--- whatever stood before it, the line has begun behind it
+-- whatever stood before it, the line has begun after it
 start_gains : (text : List ℕ) (e : Entry) (x : Exact) (old mid : Pass) → PassesOperator x old mid
     → Gains text (as_entry e kinds.Op (Some x)) None old (record mid { begun = true })
 start_gains text e x old mid passes =

@@ -15,9 +15,9 @@ use Rattle.pyparse_tokens.specs.declared.faults.ParseFault.{ParseFault}
 abbrev pub lines_within : Source → ℕ → List Line
 lines_within s n = lines_from [] [] (tokens_from s.text [] (take n (entries_of (listing s))))
 
--- A source in hand, and the extent of the language in which it is read; how many of its lines were given, which behind a fault says
+-- A source in hand, and the extent of the language in which it is read; how many of its lines were given, which after a fault says
 -- nothing; of
--- the line that is held its level, its start, its terminals and whether it looks like a `match` statement; where ENDMARKER starts, behind
+-- the line that is held its level, its start, its terminals and whether it looks like a `match` statement; where ENDMARKER starts, after
 -- the
 -- last line; and what each later call answers, once that is known.
 pub record LineReading : Type 0 where
@@ -74,7 +74,7 @@ before_first p extent = record {
   outcome = None;
 }
 
--- what each call answers behind this answer: the same again, but for a line
+-- what each call answers after this answer: the same again, but for a line
 abbrev pub outcome_of : Result Bool ParseFault → Option (Result Bool ParseFault)
 outcome_of (Ok true) = None
 outcome_of (Ok false) = Some (Ok false)

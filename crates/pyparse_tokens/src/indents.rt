@@ -7,7 +7,7 @@ ghost use Rattle.std.specs.Str.{chars, IsCharBoundary};
 ghost use Rattle.pylex_lexeme.specs.Chars.{is_blank_char};
 ghost use Rattle.pylex_listing.specs.declared.margins.Widths.{Widths};
 ghost use Rattle.pylex_listing.specs.Margins.{blanks_of, widths_of};
-ghost use Rattle.pytoken.specs.Indentation.{behind_offset, are_alike, margin_at};
+ghost use Rattle.pytoken.specs.Indentation.{following_offset, are_alike, margin_at};
 ghost use Rattle.pyparse_tokens.specs.Inner.Indenting.{is_logical_at, start_at, are_rising};
 ghost use Rattle.pyparse_tokens.specs.Inner.Indenting.{AreSpaces, begins_blank, Drops, Measures};
 
@@ -25,7 +25,7 @@ fn is_blank(c: char) -> bool
 }
 
 /// What stands after the blanks at the front of a text.
-fn behind_blanks(text: &str) -> &str
+fn after_blanks(text: &str) -> &str
     ensures cut { text.now ≡ blanks_of (chars text.now) ++ result.now }
     ensures rest { chars result.now ≡ drop (length (blanks_of (chars text.now))) (chars text.now) }
 {
@@ -69,9 +69,9 @@ fn is_logical_at(source: &Source, offset: usize) -> bool
     requires { IsCharBoundary source.now.text offset }
     ensures logical { result ≡ is_logical_at (chars source.now.text) offset }
     ensures line { chars (drop offset source.now.text)
-        ≡ behind_offset (chars source.now.text) offset }
+        ≡ following_offset (chars source.now.text) offset }
 {
-    begins_significant(behind_blanks(&source.text()[offset..]))
+    begins_significant(after_blanks(&source.text()[offset..]))
 }
 
 /// The place of the first character that isn't a blank, in the line that begins at an offset.
@@ -80,7 +80,7 @@ fn start_of(source: &Source, offset: usize) -> Place
     ensures { result ≡ start_at (chars source.now.text) offset }
 {
     let text = source.text();
-    place_of(text, text.len() - behind_blanks(&text[offset..]).len())
+    place_of(text, text.len() - after_blanks(&text[offset..]).len())
 }
 
 /// Whether two lines are in the same order by both of their widths.
@@ -168,7 +168,7 @@ impl Indents {
         requires boundary { IsCharBoundary source.now.text offset }
         requires free { self.old.mixed ≡ None }
         requires logical { is_logical_at (chars source.now.text) offset ≡ true }
-        requires widths { widths ≡ widths_of (behind_offset (chars source.now.text) offset) }
+        requires widths { widths ≡ widths_of (following_offset (chars source.now.text) offset) }
         ensures { OnOk result
             (Measures (margin_at (chars source.now.text) offset) self.old self.new) }
     {
@@ -209,12 +209,12 @@ impl Indents {
         }
         let line = &source.text()[offset..];
         let count = space_count(line);
-        let behind = &line[count..];
+        let following = &line[count..];
         // Most lines begin with spaces alone, so many by both widths.
-        if begins_blank(behind) {
+        if begins_blank(following) {
             return self.take_any(source, offset);
         }
-        if !begins_significant(behind) {
+        if !begins_significant(following) {
             return Ok(());
         }
         let widths = Widths {

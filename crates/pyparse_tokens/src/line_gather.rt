@@ -13,7 +13,7 @@ ghost use Rattle.pyparse_tokens.specs.Inner.LineGathering.{
   is_indent,
   is_dedent,
   ended_by,
-  marker_behind,
+  marker_after,
   Adds,
   TakesEntry,
 };
@@ -170,7 +170,7 @@ impl<'a> LineGather<'a> {
     /// Keeps where ENDMARKER starts.
     #[inline(always)]
     fn keep_marker(&mut self, entry: &Entry)
-        ensures marker { self.new.marker ≡ marker_behind entry.now self.old.marker }
+        ensures marker { self.new.marker ≡ marker_after entry.now self.old.marker }
         ensures rest { self.new ≡ record self.old { marker = self.new.marker } }
     {
         if matches!(entry.kind, Kind::EndMarker) {

@@ -43,14 +43,14 @@ front_fits xs ys zs f = omega (arith, f, length-take (length xs) zs, length-appe
 pub back_fits : (xs ys : List Line) (zs : List LinePlaces) → length zs ≡ length (xs ++ ys) → length (drop (length xs) zs) ≡ length ys
 back_fits xs ys zs f = omega (arith, f, length-drop (length xs) zs, length-append xs ys)
 
--- what holds of lines behind others holds of all, where it speaks of the end of the last
+-- what holds of lines after others holds of all, where it speaks of the end of the last
 pub over : (l : ℕ) (c : Bool) (xs ys : List Line) (zs : List LinePlaces) (s : State) (e : ℕ) (X : ℕ → State) →
     settle l c (run ys (drop (length xs) zs) (run xs (take (length xs) zs) s)) ≡ X
     (stops (stops e (take (length xs) zs)) (drop (length xs) zs)) →
     settle l c (run (xs ++ ys) zs s) ≡ X (stops e zs)
 over l c xs ys zs s e X h = ap (settle l c) (run-append xs ys zs s) ∙ (h ∙ ap X (sym (stops-append (length xs) zs e)))
 
--- ---- What lines add. Such a line behind them would find what it would have found before them, with these spans behind.
+-- ---- What lines add. Such a line after them would find what it would have found before them, with these spans after.
 
 abbrev pub Reads : ℕ → Bool → List Line → (List LinePlaces → List Span) → Type 0
 Reads l c xs ps = (zs : List LinePlaces) (s : State) (sp : List Span) (os : List OpenNode) (e : ℕ) → length zs ≡ length xs →
@@ -69,7 +69,7 @@ reads_both l c xs ys ps qs p q zs s sp os e f h =
     (q back (run xs front s) (sp ++ ps front) os (stops e front) (back_fits xs ys zs f) (p front s sp os e (front_fits xs ys zs f) h))
     ∙ ap (λ t. state t [] os (stops e zs)) (append_assoc sp (ps front) (qs back))
 
--- the same of a first line and those behind it
+-- the same of a first line and those after it
 abbrev pub Leads : ℕ → Bool → Line → List Line → (LinePlaces → List LinePlaces → List Span) → Type 0
 Leads l c x xs ps = (z : LinePlaces) (zs : List LinePlaces) (s : State) (sp : List Span) (os : List OpenNode) (e : ℕ)
     → length zs ≡ length xs →
@@ -105,18 +105,18 @@ goes_on_by l xs ps p zs s sp os e f h = resumed l true l false (clause_within l)
 
 -- ---- The body of a header.
 
--- the lines of a body, behind what stands in the header's line
+-- the lines of a body, after what stands in the header's line
 abbrev pub Bodies : ℕ → Option (List Stmt) → List Line → (LinePlaces → List LinePlaces → List Span) → Type 0
 Bodies l suite xs ps = (z : LinePlaces) (zs : List LinePlaces) (sp : List Span) (os : List OpenNode) (e : ℕ) → length zs ≡ length xs
     → Stays (suc l) false os →
     settle (suc l) false (run xs zs (state (sp ++ suite_in suite z) [] os e)) ≡ state (sp ++ ps z zs) [] os (stops e zs)
 
--- the spans of the parts before the body, and of those behind it
+-- the spans of the parts before the body, and of those after it
 abbrev pub before_in : Header → LinePlaces → List Span
 before_in h z = cond (has_parts (header_kind h)) z.before []
 
-abbrev pub behind_in : Header → LinePlaces → List Span
-behind_in h z = cond (is_definition (header_kind h)) z.behind []
+abbrev pub after_in : Header → LinePlaces → List Span
+after_in h z = cond (is_definition (header_kind h)) z.following []
 
 -- a header that begins no node, with its body
 pub clause_reads : (l : ℕ) (h : Header) (suite : Option (List Stmt)) (xs : List Line) (ps : LinePlaces → List LinePlaces → List Span) →
@@ -127,7 +127,7 @@ pub clause_reads : (l : ℕ) (h : Header) (suite : Option (List Stmt)) (xs : Lis
     os (stops z.whole.stop zs)
 clause_reads l h suite xs ps n c p z zs s sp os e f k =
     let all = (sp ++ before_in h z) ++ suite_in suite z in
-    let opened = node l (is_except (header_kind h)) z.whole.start ([] ++ behind_in h z) in
+    let opened = node l (is_except (header_kind h)) z.whole.start ([] ++ after_in h z) in
     let placed : step s (line l (header_form h suite)) z ≡ state all [] os z.whole.stop =
     ap (λ b. place (settle l b s) l (header_form h suite) z) c
     ∙ (ap (λ t. place t l (header_form h suite) z) k
@@ -146,17 +146,17 @@ pub node_reads : (l : ℕ) (c : Bool) (h : Header) (suite : Option (List Stmt)) 
     (z : LinePlaces) (zs : List LinePlaces) (s : State) (sp ds : List Span) (os : List OpenNode) (e : ℕ) → length zs ≡ length xs
     → settle l c s ≡ state sp ds os e →
     settle (suc l) false (run xs zs (step s (line l (header_form h suite)) z))
-    ≡ state ((sp ++ before_in h z) ++ ps z zs) [] (node l (is_except (header_kind h)) z.whole.start (ds ++ behind_in h z) ∷
+    ≡ state ((sp ++ before_in h z) ++ ps z zs) [] (node l (is_except (header_kind h)) z.whole.start (ds ++ after_in h z) ∷
     os) (stops z.whole.stop zs)
 node_reads l c h suite xs ps n i p z zs s sp ds os e f k =
     let all = (sp ++ before_in h z) ++ suite_in suite z in
-    let opened = node l (is_except (header_kind h)) z.whole.start (ds ++ behind_in h z) in
+    let opened = node l (is_except (header_kind h)) z.whole.start (ds ++ after_in h z) in
     let placed : step s (line l (header_form h suite)) z ≡ state all [] (opened ∷ os) z.whole.stop =
     ap (λ b. place (settle l b s) l (header_form h suite) z) i
     ∙ (ap (λ t. place t l (header_form h suite) z) k
     ∙ ap (λ b. cond b (state all [] (opened ∷ os) z.whole.stop) (state all ds os z.whole.stop)) n) in
     ap (λ t. settle (suc l) false (run xs zs t)) placed
-    ∙ p z zs (sp ++ before_in h z) (opened ∷ os) z.whole.stop f (lasts l (is_except (header_kind h)) z.whole.start (ds ++ behind_in h z))
+    ∙ p z zs (sp ++ before_in h z) (opened ∷ os) z.whole.stop f (lasts l (is_except (header_kind h)) z.whole.start (ds ++ after_in h z))
 
 -- ---- The end of a node.
 
@@ -187,8 +187,8 @@ choice_goes_on l c h suite xs ys ps qs n i x d p q z zs s sp os e f k =
     let opened = node l false z.whole.start [] in
     let body : settle (suc l) false (run xs front t) ≡ state most [] (opened ∷ os) (stops z.whole.stop front) =
     node_reads l c h suite xs ps n i p z front s sp [] os e (front_fits xs ys zs f) k
-    ∙ (ap (λ b. state most [] (node l b z.whole.start (behind_in h z) ∷ os) (stops z.whole.stop front)) x
-    ∙ ap (λ b. state most [] (node l false z.whole.start (cond b z.behind []) ∷ os) (stops z.whole.stop front)) d) in
+    ∙ (ap (λ b. state most [] (node l b z.whole.start (after_in h z) ∷ os) (stops z.whole.stop front)) x
+    ∙ ap (λ b. state most [] (node l false z.whole.start (cond b z.following []) ∷ os) (stops z.whole.stop front)) d) in
     let after = later (suc l) false l true (below_within l true) (run xs front t) most [] (opened ∷ os) (stops z.whole.stop front) body
     (goes_on l z.whole.start []) in
     over l false xs ys zs t z.whole.stop (λ r. settle_in l false (most ++ qs back) [] (opened ∷ os) r)

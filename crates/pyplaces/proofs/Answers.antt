@@ -35,9 +35,9 @@ pub read_as : {P : Type 0} {X : List Terminal → Type 0} {f : (ts : List Termin
 read_as {X = X} {f = f} {i = i} {at = at} {ps = ps} rest q p = subst (λ z. ReadAs X f i at (rest z) z ps) (sym q) p
 
 -- any part, from this place on: `at + 1 + 1` is `at + 2`
-pub read_from : {P : Type 0} {X : List Terminal → Type 0} {f : (ts : List Terminal) → ℕ → X ts → P} {r : List Terminal} {at k behind : ℕ}
-    {ps : P} (rest : ℕ → List Terminal) → k ≡ at → ReadAs X f (rest at) at r behind ps → ReadAs X f (rest k) k r behind ps
-read_from {X = X} {f = f} {r = r} {behind = behind} {ps = ps} rest q p = subst (λ z. ReadAs X f (rest z) z r behind ps) (sym q) p
+pub read_from : {P : Type 0} {X : List Terminal → Type 0} {f : (ts : List Terminal) → ℕ → X ts → P} {r : List Terminal} {at k following : ℕ}
+    {ps : P} (rest : ℕ → List Terminal) → k ≡ at → ReadAs X f (rest at) at r following ps → ReadAs X f (rest k) k r following ps
+read_from {X = X} {f = f} {r = r} {following = following} {ps = ps} rest q p = subst (λ z. ReadAs X f (rest z) z r following ps) (sym q) p
 
 -- ---- A sign or a word doesn't stand there.
 
@@ -56,7 +56,7 @@ pub lacks_word : {r : List Terminal} (x : Keyword) → ((t : Terminal) (s : List
     → Lacks (Word x) r
 lacks_word x f s h = none_word x (f (Word x) s h)
 
--- ---- Recorders, one behind the other: what was recorded by parts, and by a node.
+-- ---- Recorders, one after the other: what was recorded by parts, and by a node.
 
 pub afters_append : {S : Type 0} (after : S → Stretch → S) (w : S) (ps qs : List Stretch)
     → afters after w (ps ++ qs) ≡ afters after (afters after w ps) qs

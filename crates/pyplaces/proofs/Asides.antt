@@ -1,4 +1,4 @@
--- Runs of places that are set aside, and taken back behind others.
+-- Runs of places that are set aside, and taken back after others.
 --
 -- Carries: the calls, parameters, Dicts and IfExps of a reader, and the headers of `def` and `class`. On: Answers.
 use Rattle.std.proofs.Common.{◌≡◌, refl, sym, ap, ◌∙◌, ℕ, List, [], ◌∷◌, ◌++◌}
@@ -54,7 +54,7 @@ module _ {S : Type 0} {after beside : S → Stretch → S} where
   kept_count {u = u} {ps = ps} {qs = qs} count h t k =
       ap count (k.is ∙ all_apart h u ps qs) ∙ count_still t (afters beside u qs) ps
 
-  -- one behind the other
+  -- one after the other
   pub kept_more : {u v w : S} {ps qs rs ts : List Stretch} → Apart after beside → Kept after beside u ps qs v → Kept after beside v rs ts w
       → Kept after beside u (ps ++ rs) (qs ++ ts) w
   kept_more {u = u} {v = v} {ps = ps} {qs = qs} {rs = rs} {ts = ts} h k l = record {

@@ -139,7 +139,7 @@ definition_reads {l} {suite} {xs} head b p ds (z ∷ zs) s sp os e f k =
     let h = def_header head in
     let body = body_places z zs b in
     let all = (sp ++ z.before) ++ body in
-    let bs = decorator_places ds ++ z.behind in
+    let bs = decorator_places ds ++ z.following in
     let stop = stops z.whole.stop zs in
     resumed (suc l) false l false (below_within l false) (run xs zs (step s (line l (header_form h suite)) z)) all []
     (node l false z.whole.start bs ∷ os) stop
@@ -149,7 +149,7 @@ definition_reads {l} {suite} {xs} head b p ds (z ∷ zs) s sp os e f k =
     ∙ ap (λ t. state t [] os stop)
     (append_assoc (sp ++ z.before) body (bs ++ own z zs)
     ∙ (append_assoc sp z.before (body ++ (bs ++ own z zs))
-    ∙ ap (λ t. sp ++ t) (ap (λ t. z.before ++ (body ++ t)) (append_assoc (decorator_places ds) z.behind (own z zs))
+    ∙ ap (λ t. sp ++ t) (ap (λ t. z.before ++ (body ++ t)) (append_assoc (decorator_places ds) z.following (own z zs))
     ∙ sym (definition_is ds z zs b))))))
 
 decorated_reads : {l : ℕ} {suite : Option (List Stmt)} {xs ds : List Line} {es : List Expr} {ss : List Stmt} (head : DefHead)

@@ -16,10 +16,10 @@ use Rattle.pyplaces.specs.PlacesOf.{PlacesOf}
 use Rattle.std.proofs.lemmas.List.{drop_all, drop_more}
 use Rattle.std.proofs.lemmas.List.Sums.{sum_by-cons}
 use Rattle.pylex_lexeme.specs.Characters.{line_feed}
-use Rattle.pyplaces.specs.LineStarts.{Rising, attributes_by, byte_by, line_by, line_starts, starts_behind}
+use Rattle.pyplaces.specs.LineStarts.{Rising, attributes_by, byte_by, line_by, line_starts, starts_after}
 use Rattle.pyplaces.specs.ModulePlaces.{byte_at, line_at}
 
--- ---- The loop over a text: the starts so far, and those behind.
+-- ---- The loop over a text: the starts so far, and those after.
 
 cut : (bytes : List ℕ) (i b : ℕ) → i < length bytes → b ≡ get_or bytes i b → drop i bytes ≡ b ∷ drop (i + 1) bytes
 cut bytes i b h read = drop_more bytes i b h ∙ ap (λ z. z ∷ drop (i + 1) bytes) (sym read)
@@ -36,36 +36,36 @@ greater_after : (b : Bool) (n : ℕ) (ss : List ℕ) → ((k : ℕ) → k < leng
 greater_after true n ss h k l = first_greater (suc n) ss h n (omega arith) k l
 greater_after false n ss h k l = let r = h k l in omega (arith, r)
 
-starts_greater : (n : ℕ) (cs : List ℕ) (k : ℕ) → k < length (starts_behind n cs) → n < slice_index (starts_behind n cs) k
+starts_greater : (n : ℕ) (cs : List ℕ) (k : ℕ) → k < length (starts_after n cs) → n < slice_index (starts_after n cs) k
 starts_greater n [] k h = absurd (omega (arith, h))
 starts_greater n (c ∷ cs) k h =
-    greater_after (c == line_feed) n (starts_behind (suc n) cs) (λ i l. starts_greater (suc n) cs i l) k h
+    greater_after (c == line_feed) n (starts_after (suc n) cs) (λ i l. starts_greater (suc n) cs i l) k h
 
 few_after : (b : Bool) (n : ℕ) (ss : List ℕ) (m : ℕ) → length ss ≤ m → length (cond b (n ∷ ss) ss) ≤ suc m
 few_after true n ss m h = omega (arith, h)
 few_after false n ss m h = omega (arith, h)
 
-pub starts_few : (n : ℕ) (cs : List ℕ) → length (starts_behind n cs) ≤ length cs
+pub starts_few : (n : ℕ) (cs : List ℕ) → length (starts_after n cs) ≤ length cs
 starts_few n [] = omega arith
-starts_few n (c ∷ cs) = few_after (c == line_feed) (suc n) (starts_behind (suc n) cs) (length cs) (starts_few (suc n) cs)
+starts_few n (c ∷ cs) = few_after (c == line_feed) (suc n) (starts_after (suc n) cs) (length cs) (starts_few (suc n) cs)
 
-rising_behind : (s : ℕ) (ss : List ℕ) → ((k : ℕ) → k < length ss → s ≤ slice_index ss k) → Rising ss → Rising (s ∷ ss)
-rising_behind s ss low r zero zero h k = omega arith
-rising_behind s ss low r zero (suc j) h k = low j (omega (arith, k))
-rising_behind s ss low r (suc i) zero h k = absurd (omega (arith, h))
-rising_behind s ss low r (suc i) (suc j) h k = r i j (omega (arith, h)) (omega (arith, k))
+rising_after : (s : ℕ) (ss : List ℕ) → ((k : ℕ) → k < length ss → s ≤ slice_index ss k) → Rising ss → Rising (s ∷ ss)
+rising_after s ss low r zero zero h k = omega arith
+rising_after s ss low r zero (suc j) h k = low j (omega (arith, k))
+rising_after s ss low r (suc i) zero h k = absurd (omega (arith, h))
+rising_after s ss low r (suc i) (suc j) h k = r i j (omega (arith, h)) (omega (arith, k))
 
 rise_after : (b : Bool) (n : ℕ) (ss : List ℕ) → ((k : ℕ) → k < length ss → n < slice_index ss k) → Rising ss → Rising (cond b (n ∷ ss) ss)
-rise_after true n ss h r = rising_behind n ss (λ k l. let m = h k l in omega (arith, m)) r
+rise_after true n ss h r = rising_after n ss (λ k l. let m = h k l in omega (arith, m)) r
 rise_after false n ss h r = r
 
-starts_rise : (n : ℕ) (cs : List ℕ) → Rising (starts_behind n cs)
+starts_rise : (n : ℕ) (cs : List ℕ) → Rising (starts_after n cs)
 starts_rise n [] = λ i j h k. absurd (omega (arith, k))
 starts_rise n (c ∷ cs) =
-    rise_after (c == line_feed) (suc n) (starts_behind (suc n) cs) (starts_greater (suc n) cs) (starts_rise (suc n) cs)
+    rise_after (c == line_feed) (suc n) (starts_after (suc n) cs) (starts_greater (suc n) cs) (starts_rise (suc n) cs)
 
 pub line_starts_rise : (cs : List ℕ) → Rising (line_starts cs)
-line_starts_rise cs = rising_behind 0 (starts_behind 0 cs) (λ k h. omega arith) (starts_rise 0 cs)
+line_starts_rise cs = rising_after 0 (starts_after 0 cs) (λ k h. omega arith) (starts_rise 0 cs)
 
 -- ---- The line of an offset.
 
@@ -101,21 +101,21 @@ up_after true b n ss m h = counts (b + suc n) (suc b) ss true m (passes (suc b) 
 up_after false b n ss m h = h ∙ omega arith
 
 -- an offset in a text: of its starts so many are no greater as there are LFs before it
-starts_up_to : (b n : ℕ) (cs : List ℕ) → line_by (starts_behind b cs) (b + n) ≡ count_by (λ c. c == line_feed) (take n cs)
-starts_up_to b zero cs = none_counted (b + 0) (starts_behind b cs) (λ k h. let m = starts_greater b cs k h in omega (arith, m))
+starts_up_to : (b n : ℕ) (cs : List ℕ) → line_by (starts_after b cs) (b + n) ≡ count_by (λ c. c == line_feed) (take n cs)
+starts_up_to b zero cs = none_counted (b + 0) (starts_after b cs) (λ k h. let m = starts_greater b cs k h in omega (arith, m))
 starts_up_to b (suc n) [] = refl
 starts_up_to b (suc n) (c ∷ cs) =
     let moved : b + suc n ≡ suc b + n = omega arith in
-    up_after (c == line_feed) b n (starts_behind (suc b) cs) (count_by (λ c. c == line_feed) (take n cs))
-    (ap (line_by (starts_behind (suc b) cs)) moved ∙ starts_up_to (suc b) n cs)
+    up_after (c == line_feed) b n (starts_after (suc b) cs) (count_by (λ c. c == line_feed) (take n cs))
+    (ap (line_by (starts_after (suc b) cs)) moved ∙ starts_up_to (suc b) n cs)
     ∙ sym (sum_by-cons (λ c. cond (c == line_feed) 1 0) c (take n cs))
 
 pub line_law : (cs : List ℕ) (n : ℕ) → line_by (line_starts cs) n ≡ line_at n cs
 line_law cs n =
     let h : 0 + n ≡ n = omega arith in
-    let k : line_by (starts_behind 0 cs) n ≡ count_by (λ c. c == line_feed) (take n cs) =
-    ap (line_by (starts_behind 0 cs)) (sym h) ∙ starts_up_to 0 n cs in
-    counts n 0 (starts_behind 0 cs) true _ (passes 0 n (omega arith)) k
+    let k : line_by (starts_after 0 cs) n ≡ count_by (λ c. c == line_feed) (take n cs) =
+    ap (line_by (starts_after 0 cs)) (sym h) ∙ starts_up_to 0 n cs in
+    counts n 0 (starts_after 0 cs) true _ (passes 0 n (omega arith)) k
 
 -- the bytes since the last start: of a line feed, and of another byte
 byte_after : (x : Bool) (b n column r : ℕ) (ss : List ℕ) → column ≤ b
@@ -140,21 +140,21 @@ byte_after false b n column r ss h f g =
     ∙ ap (λ y. (b + suc n) - slice_index (y ∷ ss) (line_by ss (b + suc n))) same)
 
 byte_from : (n b column : ℕ) (cs : List ℕ) → column ≤ b → n ≤ length cs
-    → byte_at n column cs ≡ (b + n) - slice_index ((b - column) ∷ starts_behind b cs) (line_by (starts_behind b cs) (b + n))
+    → byte_at n column cs ≡ (b + n) - slice_index ((b - column) ∷ starts_after b cs) (line_by (starts_after b cs) (b + n))
 byte_from zero b column cs h k =
-    let none : line_by (starts_behind b cs) (b + 0) ≡ 0 =
-    none_counted (b + 0) (starts_behind b cs) (λ k h. let m = starts_greater b cs k h in omega (arith, m)) in
+    let none : line_by (starts_after b cs) (b + 0) ≡ 0 =
+    none_counted (b + 0) (starts_after b cs) (λ k h. let m = starts_greater b cs k h in omega (arith, m)) in
     let e : column ≡ (b + 0) - (b - column) = omega (arith, h) in
-    e ∙ ap (λ m. (b + 0) - slice_index ((b - column) ∷ starts_behind b cs) m) (sym none)
+    e ∙ ap (λ m. (b + 0) - slice_index ((b - column) ∷ starts_after b cs) m) (sym none)
 byte_from (suc n) b column [] h k = absurd (omega (arith, k))
 byte_from (suc n) b column (c ∷ cs) h k =
-    byte_after (c == line_feed) b n column (byte_at n (cond (c == line_feed) 0 (suc column)) cs) (starts_behind (suc b) cs) h
+    byte_after (c == line_feed) b n column (byte_at n (cond (c == line_feed) 0 (suc column)) cs) (starts_after (suc b) cs) h
     (λ t. ap (λ x. byte_at n (cond x 0 (suc column)) cs) t ∙ byte_from n (suc b) 0 cs (omega arith) (omega (arith, k)))
     (λ t. ap (λ x. byte_at n (cond x 0 (suc column)) cs) t ∙ byte_from n (suc b) (suc column) cs (omega (arith, h)) (omega (arith, k)))
 
 pub byte_law : (cs : List ℕ) (n : ℕ) → n ≤ length cs → byte_by (line_starts cs) n ≡ byte_at n 0 cs
 byte_law cs n h =
-    let st : List ℕ = starts_behind 0 cs in
+    let st : List ℕ = starts_after 0 cs in
     let same : 0 + n ≡ n = omega arith in
     let one : line_by (0 ∷ st) n ≡ 1 + line_by st n = counts n 0 st true (line_by st n) (passes 0 n (omega arith)) refl in
     let less : line_by (0 ∷ st) n - 1 ≡ line_by st n = omega (arith, one) in

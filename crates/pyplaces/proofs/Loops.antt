@@ -6,11 +6,11 @@ use Rattle.std.proofs.Common.{sym, subst, ℕ, List, [], ◌++◌, append_assoc}
 use Rattle.std.proofs.lemmas.List.{append-nil}
 use Rattle.pytoken.specs.Terminals.{Terminal}
 
--- From i on, which begins behind `at` terminals, es were read up to r, with these places; L is what a run of them is. What follows goes
--- behind them.
+-- From i on, which begins after `at` terminals, es were read up to r, with these places; L is what a run of them is. What follows goes
+-- after them.
 pub record Grows {A P : Type 0} (L : List Terminal → ℕ → List A → List Terminal → ℕ → List P → Type 0) (i : List Terminal) (at : ℕ)
-    (es : List A) (r : List Terminal) (behind : ℕ) (ps : List P) : Type 0 where
-  pub so : (fs : List A) (s : List Terminal) (next : ℕ) (qs : List P) → L r behind fs s next qs → L i at (es ++ fs) s next (ps ++ qs)
+    (es : List A) (r : List Terminal) (following : ℕ) (ps : List P) : Type 0 where
+  pub so : (fs : List A) (s : List Terminal) (next : ℕ) (qs : List P) → L r following fs s next qs → L i at (es ++ fs) s next (ps ++ qs)
 
 module _ {A P : Type 0} {L : List Terminal → ℕ → List A → List Terminal → ℕ → List P → Type 0} where
   -- nothing was read

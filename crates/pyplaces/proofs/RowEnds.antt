@@ -7,7 +7,7 @@ use Rattle.std.proofs.Common.{length-append, Bool}
 use Rattle.pytoken.specs.Terminals.{Terminal, FormattedBegin, FormattedEnd, FieldBegin, FieldEnd}
 use Rattle.pygrammar.specs.FormattedStrings.{StringPart}
 use Rattle.pygrammar.specs.Grammar as G
-use Rattle.pygrammar.specs.OpenStrings.{Open, open_behind_all}
+use Rattle.pygrammar.specs.OpenStrings.{Open, open_after_all}
 use Rattle.pygrammar.proofs.Callers.OpenStrings.{formatted_closes}
 use Rattle.pyplaces.specs.RowEnds.{row_length}
 use Rattle.pyplaces.specs.Stretches.{Stretch}
@@ -23,16 +23,16 @@ depth (k ∷ q) d = suc (depth q d)
 record Stays (ts : List Terminal) (q : Open) (n d : ℕ) : Type 0 where
   left : Open
   fields : ℕ
-  is : open_behind_all (q ++ (n ∷ [])) ts ≡ left ++ (fields ∷ [])
+  is : open_after_all (q ++ (n ∷ [])) ts ≡ left ++ (fields ∷ [])
   walk : (r : List Terminal) → row_length (depth q d) (ts ++ r) ≡ length ts + row_length (depth left d) r
 
--- they end the open one, so what is open behind them is what would be without it
+-- they end the open one, so what is open after them is what would be without it
 abbrev Leaves : List Terminal → Open → ℕ → Type 0
-Leaves ts q n = open_behind_all (q ++ (n ∷ [])) ts ≡ open_behind_all q ts
+Leaves ts q n = open_after_all (q ++ (n ∷ [])) ts ≡ open_after_all q ts
 
--- one terminal in front, behind which p are open
+-- one terminal in front, after which p are open
 step : {ts : List Terminal} {p q : Open} {m n d : ℕ} (t : Terminal)
-    → open_behind_all (q ++ (n ∷ [])) (t ∷ ts) ≡ open_behind_all (p ++ (m ∷ [])) ts → open_behind_all q (t ∷ ts) ≡ open_behind_all p ts
+    → open_after_all (q ++ (n ∷ [])) (t ∷ ts) ≡ open_after_all (p ++ (m ∷ [])) ts → open_after_all q (t ∷ ts) ≡ open_after_all p ts
     → ((r : List Terminal) → row_length (depth q d) (t ∷ (ts ++ r)) ≡ suc (row_length (depth p d) (ts ++ r)))
     → (Stays ts p m d) ⊎ (Leaves ts p m) → (Stays (t ∷ ts) q n d) ⊎ (Leaves (t ∷ ts) q n)
 step t a b w (inl s) = inl (record {
@@ -72,14 +72,14 @@ some_or_none : (n : ℕ) → ◌≡◌ {A = Open} (n ∷ []) [] → ⊥
 some_or_none n h = absurd (cc)
 
 -- the terminals within an f-string are walked over
-within : (ts : List Terminal) → ((o : Open) → open_behind_all o ts ≡ o) → (d : ℕ) (r : List Terminal)
+within : (ts : List Terminal) → ((o : Open) → open_after_all o ts ≡ o) → (d : ℕ) (r : List Terminal)
     → row_length (suc d) (ts ++ r) ≡ length ts + row_length (suc d) r
 within ts h d r = elim (stays_or_leaves ts [] 0 d) [
   | inl s ↦ s.walk r ∙ ap (λ z. length ts + row_length (depth z d) r) (one_left s.left s.fields 0 (sym (h (0 ∷ [])) ∙ s.is))
   | inr l ↦ absurd (some_or_none 0 (sym (h (0 ∷ [])) ∙ (l ∙ h [])))
 ]
 
--- an f-string from behind its begin on, and what is behind it
+-- an f-string from after its begin on, and what is after it
 formatted_walk : {u : Bool} {ts : List Terminal} {ps : List StringPart} → G.Formatted u ts ps → (d : ℕ) (r : List Terminal)
     → row_length (suc d) (ts ++ (FormattedEnd ∷ r)) ≡ length ts + suc (row_length d r)
 formatted_walk {ts = ts} p d r = within ts (formatted_closes p) d (FormattedEnd ∷ r)
@@ -93,11 +93,11 @@ literals_walk (G.formatted_literal {ts = ts} {us = us} p c) r h =
     ap (λ z. suc (row_length 1 z)) (append_assoc ts (FormattedEnd ∷ us) r)
     ∙ omega (arith, formatted_walk p 0 (us ++ r), literals_walk c r h, length-append ts (FormattedEnd ∷ us))
 
--- the row's end, from behind the begin of its first f-string
-pub row_walk : {u : Bool} {row : Stretch} {i s j r : List Terminal} {at m behind : ℕ} {ps qs : List StringPart}
+-- the row's end, from after the begin of its first f-string
+pub row_walk : {u : Bool} {row : Stretch} {i s j r : List Terminal} {at m following : ℕ} {ps qs : List StringPart}
     {fs gs : List (List Stretch)}
-    → PlacedFormatted u row i at ps s m fs → s ≡ FormattedEnd ∷ j → PlacedLiterals u row j (m + 1) qs r behind gs
-    → row_length 0 r ≡ 0 → at + row_length 1 i ≡ behind
+    → PlacedFormatted u row i at ps s m fs → s ≡ FormattedEnd ∷ j → PlacedLiterals u row j (m + 1) qs r following gs
+    → row_length 0 r ≡ 0 → at + row_length 1 i ≡ following
 row_walk {i = i} {s = s} {j = j} {r = r} p k q h =
     let e : i ≡ p.front ++ (FormattedEnd ∷ (q.front ++ r)) = p.is ∙ ap (λ z. p.front ++ z) (k ∙ ap (λ z. FormattedEnd ∷ z) q.is) in
     omega (arith, ap (λ z. row_length 1 z) e, formatted_walk p.derived 0 (q.front ++ r), literals_walk q.derived r h, p.ends, q.ends)

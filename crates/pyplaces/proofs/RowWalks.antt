@@ -7,7 +7,7 @@ use Rattle.pytoken.specs.Terminals as tokens
 use Rattle.pytoken.specs.TerminalOf.{terminal}
 use Rattle.pytoken.specs.declared.values.terminals.Terminal.{Terminal}
 use Rattle.pygrammar.specs.Reader.{on_some}
-use Rattle.pyplaces.specs.RowEnds.{closed, inside, depth_behind, row_length}
+use Rattle.pyplaces.specs.RowEnds.{closed, inside, depth_following, row_length}
 
 pub closed_none : (d : ℕ) → d ≡ 0 → None ≡ closed d
 closed_none zero h = refl
@@ -37,7 +37,7 @@ inside_few : (d e : ℕ) → Some e ≡ inside d → e ≤ d + 1
 inside_few zero e h = absurd (cc)
 inside_few (suc d) e h = omega (arith, some_is e (suc d) h)
 
-pub walk_few : (d e : ℕ) (t : tokens.Terminal) → Some e ≡ depth_behind d t → e ≤ d + 1
+pub walk_few : (d e : ℕ) (t : tokens.Terminal) → Some e ≡ depth_following d t → e ≤ d + 1
 walk_few d e tokens.FormattedBegin h = omega (arith, some_is e (suc d) h)
 walk_few d e (tokens.Literal v) h = omega (arith, some_is e d h)
 walk_few d e tokens.FormattedEnd h = closed_few d e h
@@ -52,21 +52,21 @@ walk_past (t ∷ ts) (suc n) d h = walk_past ts n d (omega (arith, h))
 
 -- at one
 walk_here : (ts : List Terminal) (n d : ℕ) (z : Terminal) → n < length ts
-    → row_length d (drop n (map terminal ts)) ≡ on_some (depth_behind d (terminal (get_or ts n z)))
+    → row_length d (drop n (map terminal ts)) ≡ on_some (depth_following d (terminal (get_or ts n z)))
     (λ e. suc (row_length e (drop (n + 1) (map terminal ts)))) 0
 walk_here [] n d z h = absurd (omega (arith, h))
 walk_here (t ∷ ts) zero d z h = refl
 walk_here (t ∷ ts) (suc n) d z h =
     let e : suc (n + 1) ≡ suc n + 1 = omega arith in
     walk_here ts n d z (omega (arith, h))
-    ∙ ap (λ k. on_some (depth_behind d (terminal (get_or ts n z))) (λ e. suc (row_length e (drop k (terminal t ∷ map terminal ts)))) 0) e
+    ∙ ap (λ k. on_some (depth_following d (terminal (get_or ts n z))) (λ e. suc (row_length e (drop k (terminal t ∷ map terminal ts)))) 0) e
 
-pub walk_stops : (ts : List Terminal) (n d : ℕ) (z : Terminal) → n < length ts → None ≡ depth_behind d (terminal (get_or ts n z))
+pub walk_stops : (ts : List Terminal) (n d : ℕ) (z : Terminal) → n < length ts → None ≡ depth_following d (terminal (get_or ts n z))
     → row_length d (drop n (map terminal ts)) ≡ 0
 walk_stops ts n d z h q = walk_here ts n d z h
     ∙ ap (λ o. on_some o (λ e. suc (row_length e (drop (n + 1) (map terminal ts)))) 0) (sym q)
 
-pub walk_goes : (ts : List Terminal) (n d e : ℕ) (z : Terminal) → n < length ts → Some e ≡ depth_behind d (terminal (get_or ts n z))
+pub walk_goes : (ts : List Terminal) (n d e : ℕ) (z : Terminal) → n < length ts → Some e ≡ depth_following d (terminal (get_or ts n z))
     → row_length d (drop n (map terminal ts)) ≡ suc (row_length e (drop (n + 1) (map terminal ts)))
 walk_goes ts n d e z h q = walk_here ts n d z h
     ∙ ap (λ o. on_some o (λ e. suc (row_length e (drop (n + 1) (map terminal ts)))) 0) (sym q)

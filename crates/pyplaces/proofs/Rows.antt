@@ -29,8 +29,8 @@ at_end : (row : Stretch) (t : List ℕ) → string_places row (with_text t []) [
 at_end row [] = refl
 at_end row (c ∷ t) = refl
 
-behind : (ds xs f zs : List Stretch) (row : Stretch) → ds ++ (xs ++ (f ++ (row ∷ zs))) ≡ ((ds ++ xs) ++ (f ++ (row ∷ []))) ++ zs
-behind ds xs f zs row = simp append_assoc refl
+following : (ds xs f zs : List Stretch) (row : Stretch) → ds ++ (xs ++ (f ++ (row ∷ zs))) ≡ ((ds ++ xs) ++ (f ++ (row ∷ []))) ++ zs
+following ds xs f zs row = simp append_assoc refl
 
 -- with what follows
 row_with : {row : Stretch} {ss : List StringPart} {fs : List (List Stretch)} {t : List ℕ} {ds : List Stretch} → RowSoFar row ss fs t ds
@@ -44,7 +44,7 @@ row_with {row} (row_field {ss = ss} {fs = fs} {t = t} {ds = ds} e f r) ts gs =
     ap (λ z. string_places row (merged z) ((fs ++ (f ∷ [])) ++ gs)) (append_assoc ss (Field e ∷ []) ts)
     ∙ (ap (λ z. string_places row (merged (ss ++ (Field e ∷ ts))) z) (append_assoc fs (f ∷ []) gs)
     ∙ (row_with r (Field e ∷ ts) (f ∷ gs) ∙ (ap (λ z. ds ++ z) (before_field row t e (merged ts) f gs)
-    ∙ behind ds (text_places row t) f (string_places row (merged ts) gs) row)))
+    ∙ following ds (text_places row t) f (string_places row (merged ts) gs) row)))
 
 pub row_end : {row : Stretch} {ss : List StringPart} {fs : List (List Stretch)} {t : List ℕ} {ds : List Stretch} → RowSoFar row ss fs t ds
     → string_places row (merged ss) fs ≡ ds ++ text_places row t

@@ -10,7 +10,7 @@ use Rattle.pyplaces.specs.FormPlaces.{FormPlaces}
 pub record LinePlaces : Type 0 where
   pub whole : Span
   pub before : List Span
-  pub behind : List Span
+  pub following : List Span
   pub suite : List Span
 
 abbrev pub whole_of : List Span → Span
@@ -20,7 +20,7 @@ whole_of (s ∷ (t ∷ ss)) = span s.start (whole_of (t ∷ ss)).stop
 
 -- those of a line whose terminals have these spans
 abbrev pub line_of : List Span → FormPlaces → LinePlaces
-line_of ss f = record { whole = whole_of ss; before = spans_of ss f.before; behind = spans_of ss f.behind; suite = spans_of ss f.suite }
+line_of ss f = record { whole = whole_of ss; before = spans_of ss f.before; following = spans_of ss f.following; suite = spans_of ss f.suite }
 
 -- a compound statement: from where it begins to the end of the last of its lines
 abbrev pub ending : ℕ → List LinePlaces → Span
@@ -51,21 +51,21 @@ abbrev mutual
   statement_places (z ∷ zs) (B.try_finally {xs = xs} b f) =
       body_places z (take (length xs) zs) b ++ (final_places (drop (length xs) zs) f ++ own z zs)
   statement_places (z ∷ zs) (B.try_except {xs = xs} {ys = ys} {zs = more} b h o f) =
-      let behind = drop (length xs) zs in
-      let last = drop (length ys) behind in
-      body_places z (take (length xs) zs) b ++ (handlers_places (take (length ys) behind) h ++
+      let following = drop (length xs) zs in
+      let last = drop (length ys) following in
+      body_places z (take (length xs) zs) b ++ (handlers_places (take (length ys) following) h ++
       (otherwise_places (take (length more) last) o ++ (ending_places (drop (length more) last) f ++ own z zs)))
-  -- a statement begins behind its decorators
+  -- a statement begins after its decorators
   statement_places (z ∷ zs) (B.definition_of head {ds = ds} d b) =
       definition_places (take (length ds) (z ∷ zs)) (drop (length ds) (z ∷ zs)) b
   statement_places (z ∷ zs) (B.match_statement c) = z.before ++ (cases_places zs c ++ own z zs)
 
-  -- fields before the body, body, decorators, fields behind
+  -- fields before the body, body, decorators, fields after
   pub definition_places : {l : ℕ} {suite : Option (List Stmt)} {xs : List Line} {ss : List Stmt} → List LinePlaces → List LinePlaces
       → B.Body l suite xs ss → List Span
   definition_places ds [] b = []
-  definition_places ds (z ∷ zs) B.inline = z.before ++ (z.suite ++ (decorator_places ds ++ (z.behind ++ own z zs)))
-  definition_places ds (z ∷ zs) (B.indented b) = z.before ++ (block_places zs b ++ (decorator_places ds ++ (z.behind ++ own z zs)))
+  definition_places ds (z ∷ zs) B.inline = z.before ++ (z.suite ++ (decorator_places ds ++ (z.following ++ own z zs)))
+  definition_places ds (z ∷ zs) (B.indented b) = z.before ++ (block_places zs b ++ (decorator_places ds ++ (z.following ++ own z zs)))
 
   -- the last clause of a `try` without handlers
   pub final_places : {l : ℕ} {suite : Option (List Stmt)} {xs : List Line} {ss : List Stmt} → List LinePlaces

@@ -22,7 +22,7 @@ HandlersLie lo (z ∷ zs) (B.except_clause {xs = xs} b h) hi =
     (lo ≤ own.start) × (own.start ≤ own.stop) × AllLieBetween own.start own.stop (z.before ++ body_places z (take (length xs) zs) b)
     × HandlersLie own.stop (drop (length xs) zs) h hi
 
--- A case has no span: what is in it stands between where its line begins and where its last line ends, and the next begins behind that.
+-- A case has no span: what is in it stands between where its line begins and where its last line ends, and the next begins after that.
 abbrev pub CasesLie : {l : ℕ} {xs : List Line} {cs : List Case} → ℕ → List LinePlaces → B.Cases l xs cs → ℕ → Type 0
 CasesLie lo zs B.no_case hi = lo ≤ hi
 CasesLie lo [] (B.case_clause b c) hi = lo ≤ hi
@@ -44,10 +44,10 @@ abbrev mutual
   InStatement P (z ∷ zs) (B.with_statement b) = OfBody P z zs b
   InStatement P (z ∷ zs) (B.try_finally {xs = xs} b f) = OfBody P z (take (length xs) zs) b × OfHeaded P (drop (length xs) zs) f
   InStatement P (z ∷ zs) (B.try_except {xs = xs} {ys = ys} {zs = more} b h o f) =
-      let behind = drop (length xs) zs in
-      let last = drop (length ys) behind in
-      OfBody P z (take (length xs) zs) b × OfHandlers P (take (length ys) behind) h
-      × ((lo : ℕ) × (hi : ℕ) × HandlersLie lo (take (length ys) behind) h hi)
+      let following = drop (length xs) zs in
+      let last = drop (length ys) following in
+      OfBody P z (take (length xs) zs) b × OfHandlers P (take (length ys) following) h
+      × ((lo : ℕ) × (hi : ℕ) × HandlersLie lo (take (length ys) following) h hi)
       × OfOtherwise P (take (length more) last) o × OfEnding P (drop (length more) last) f
   InStatement P (z ∷ zs) (B.definition_of head {ds = ds} d b) = OfHeaded P (drop (length ds) (z ∷ zs)) b
   InStatement P (z ∷ zs) (B.match_statement c) = OfCases P zs c × ((lo : ℕ) × (hi : ℕ) × CasesLie lo zs c hi)

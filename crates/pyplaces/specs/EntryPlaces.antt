@@ -61,7 +61,7 @@ all_defaults [] = []
 all_defaults (Plain ps ds ∷ es) = ds ++ all_defaults es
 all_defaults (_ ∷ es) = all_defaults es
 
--- those of keyword-only parameters, behind the star
+-- those of keyword-only parameters, after the star
 abbrev pub keyword_defaults : List EntryPlaces → List Stretch
 keyword_defaults [] = []
 keyword_defaults (Bare ∷ es) = all_defaults es

@@ -30,12 +30,12 @@ abbrev pub perhaps_places : {l : Level} {ts : List Terminal} {e : Option Expr} �
 perhaps_places at F.left_out = []
 perhaps_places at (F.given p) = places at p
 
-abbrev pub behind_places : {t : Terminal} {l : Level} {ts : List Terminal} {e : Option Expr} → ℕ → F.Behind t l ts e → List Stretch
-behind_places at F.none_behind = []
-behind_places at (F.behind p) = places (1 + at) p
+abbrev pub after_places : {t : Terminal} {l : Level} {ts : List Terminal} {e : Option Expr} → ℕ → F.Following t l ts e → List Stretch
+after_places at F.none_after = []
+after_places at (F.following p) = places (1 + at) p
 
 abbrev pub type_param_places : {ts : List Terminal} {p : TypeParam} → ℕ → F.TypeParamOf ts p → List Stretch
-type_param_places at (F.type_var {ts = ts} b) = behind_places (1 + at) b ++ over at (1 + length ts)
+type_param_places at (F.type_var {ts = ts} b) = after_places (1 + at) b ++ over at (1 + length ts)
 type_param_places at F.type_var_tuple = over at 2
 type_param_places at F.param_spec = over at 2
 
@@ -67,17 +67,17 @@ abbrev pub field_places : {profile : Profile} {ts : List Terminal} {s : Stmt} �
 field_places at (F.value p) = places at p
 field_places at (F.assign {ts = ts} t p) = targets_places at t ++ places (at + length ts) p
 field_places at (F.augmented_assign {ts = ts} x t h p) = single_target_places at t ++ places (1 + (at + length ts)) p
-field_places at (F.annotated_name {ts = ts} p v) = over at 1 ++ (places (2 + at) p ++ behind_places (2 + (at + length ts)) v)
+field_places at (F.annotated_name {ts = ts} p v) = over at 1 ++ (places (2 + at) p ++ after_places (2 + (at + length ts)) v)
 field_places at (F.annotated_group {ts = ts} {us = us} t p v) =
-    single_target_places (1 + at) t ++ (places (3 + (at + length ts)) p ++ behind_places (3 + (at + (length ts + length us))) v)
+    single_target_places (1 + at) t ++ (places (3 + (at + length ts)) p ++ after_places (3 + (at + (length ts + length us))) v)
 field_places at (F.annotated_part {ts = ts} {us = us} t h p v) =
-    single_target_places at t ++ (places (1 + (at + length ts)) p ++ behind_places (1 + (at + (length ts + length us))) v)
+    single_target_places at t ++ (places (1 + (at + length ts)) p ++ after_places (1 + (at + (length ts + length us))) v)
 -- name, type_params, value
 field_places at (F.type_alias {ts = ts} h c p) = over (1 + at) 1 ++ (type_params_places (2 + at) c ++ places (3 + (at + length ts)) p)
 field_places at (F.return_of p) = perhaps_places (1 + at) p
 field_places at F.raise_alone = []
-field_places at (F.raise_of {ts = ts} p c) = places (1 + at) p ++ behind_places (1 + (at + length ts)) c
-field_places at (F.assert_of {ts = ts} p c) = places (1 + at) p ++ behind_places (1 + (at + length ts)) c
+field_places at (F.raise_of {ts = ts} p c) = places (1 + at) p ++ after_places (1 + (at + length ts)) c
+field_places at (F.assert_of {ts = ts} p c) = places (1 + at) p ++ after_places (1 + (at + length ts)) c
 field_places at (F.delete c) = ended_places Expr G.DelTarget (λ ts a. del_target_places) (1 + at) c
 field_places at (F.global c) = []
 field_places at (F.nonlocal c) = []
@@ -111,19 +111,19 @@ abbrev pub bases_places : {ts : List Terminal} {es : List Expr} {ks : Keywords} 
 bases_places at F.no_bases = []
 bases_places at (F.bases c h) = let es = listing_places (1 + at) c in E.positional es ++ E.keywords es
 
--- What a line gives to its statement: the places of the fields before the body, of those behind body and decorators, and of the statements
+-- What a line gives to its statement: the places of the fields before the body, of those after body and decorators, and of the statements
 -- that
 -- stand in the line.
 pub record FormPlaces : Type 0 where
   pub before : List Stretch
-  pub behind : List Stretch
+  pub following : List Stretch
   pub suite : List Stretch
 
 abbrev pub form_places : List Stretch → List Stretch → List Stretch → FormPlaces
-form_places before behind suite = record { before = before; behind = behind; suite = suite }
+form_places before following suite = record { before = before; following = following; suite = suite }
 
 abbrev pub with_suite : List Stretch → FormPlaces → FormPlaces
-with_suite ps f = form_places f.before f.behind ps
+with_suite ps f = form_places f.before f.following ps
 
 abbrev pub plain_header : List Stretch → FormPlaces
 plain_header ps = form_places ps [] []
@@ -144,12 +144,12 @@ header_places at (F.except_star p a) = plain_header (places (2 + at) p)
 -- args; returns, type_params
 header_places at (F.def_line {ts = ts} {us = us} {vs = vs} x a c ps h r) =
     form_places (E.arranged (listing_places (3 + (at + (length ts + length us))) ps))
-    (behind_places (4 + (at + (length ts + (length us + length vs)))) r ++ type_params_places (2 + (at + length ts)) c) []
+    (after_places (4 + (at + (length ts + (length us + length vs)))) r ++ type_params_places (2 + (at + length ts)) c) []
 -- bases, keywords; type_params
 header_places at (F.class_line {ts = ts} c b) = form_places (bases_places (2 + (at + length ts)) b) (type_params_places (2 + at) c) []
 
 abbrev pub case_places : {ts : List Terminal} {h : Header} → ℕ → F.CaseOf ts h → FormPlaces
-case_places at (F.case_line {ts = ts} form p g) = plain_header (pattern_places (1 + at) p ++ behind_places (1 + (at + length ts)) g)
+case_places at (F.case_line {ts = ts} form p g) = plain_header (pattern_places (1 + at) p ++ after_places (1 + (at + length ts)) g)
 
 -- ---- Lines.
 

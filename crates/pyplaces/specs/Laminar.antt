@@ -1,4 +1,4 @@
--- Spans of which one holds the other, or which stand one behind the other.
+-- Spans of which one holds the other, or which stand one after the other.
 use Rattle.std.specs.Prelude.{◌≡◌, ◌⊎◌, ℕ, zero, suc, ◌-◌, ◌≤◌, Bool, true, false, ◌&&◌, nat_le, List, [], ◌∷◌, ◌++◌, length}
 use Rattle.std.specs.List.{list_any}
 use Rattle.pytree_node.specs.declared.profiles.Profile.{Profile}
@@ -21,7 +21,7 @@ pub data AreClearSpans (s t : Span) : Type 0 where
   holds_it : s.start ≤ t.start → t.stop ≤ s.stop → AreClearSpans s t
   held_by_it : t.start ≤ s.start → s.stop ≤ t.stop → AreClearSpans s t
   ends_first : s.stop ≤ t.start → AreClearSpans s t
-  begins_behind : t.stop ≤ s.start → AreClearSpans s t
+  begins_after : t.stop ≤ s.start → AreClearSpans s t
 
 -- ---- Places that begin or end within a token, an f-string.
 
@@ -33,7 +33,7 @@ are_whole (t ∷ ts) (suc n) =
     let k = length (terminals_of t.kind t.text) in nat_le k (suc n) && are_whole ts (suc n - k)
 
 abbrev pub is_of_tokens : List Token → Stretch → Bool
-is_of_tokens ts p = are_whole ts p.first && are_whole ts p.behind
+is_of_tokens ts p = are_whole ts p.first && are_whole ts p.following
 
 abbrev pub has_fstring : List Token → Bool
 has_fstring ts = list_any (λ t. is_fstring t.kind t.text) ts
@@ -47,7 +47,7 @@ pub record StandsInAField (ts : List Token) (ss : List Span) (ps : List Stretch)
   pub fstring : has_fstring ts ≡ true
 
 abbrev pub places_in_line : FormPlaces → List Stretch
-places_in_line f = (f.before ++ f.behind) ++ f.suite
+places_in_line f = (f.before ++ f.following) ++ f.suite
 
 -- both are such, in one line
 abbrev pub StandInFields : {profile : Profile} {earlier : List Lines.Line} {xs : List Line} {ys : List Lines.Line} → (Line → List Span)

@@ -29,11 +29,11 @@ Count = (spans : tokens.Line → List Span) (profile : Profile) (s : Source) (m 
 
 -- ---- Tokens.
 
--- it begins at one of the terminals from lo on and before hi, and ends behind one of them
+-- it begins at one of the terminals from lo on and before hi, and ends after one of them
 pub record IsWithin (lo hi : ℕ) (s : Stretch) : Type 0 where
   pub begins : lo ≤ s.first
-  pub some : s.first < s.behind
-  pub ends : s.behind ≤ hi
+  pub some : s.first < s.following
+  pub ends : s.following ≤ hi
 
 abbrev pub AreWithin : ℕ → ℕ → List Stretch → Type 0
 AreWithin lo hi [] = Unit {0}
@@ -42,7 +42,7 @@ AreWithin lo hi (s ∷ ss) = IsWithin lo hi s × AreWithin lo hi ss
 -- the places of a line begin and end at terminals of it
 abbrev pub Tokens : Type 0
 Tokens = (profile : Profile) (inside : Bool) (ts : List Terminal) (f : Form) (d : FormAt profile inside ts f)
-    → AreWithin 0 (length ts) (places_at d).before × AreWithin 0 (length ts) (places_at d).behind
+    → AreWithin 0 (length ts) (places_at d).before × AreWithin 0 (length ts) (places_at d).following
     × AreWithin 0 (length ts) (places_at d).suite
 
 -- ---- Nested.
@@ -53,7 +53,7 @@ pub record IsRooted (lo hi : ℕ) (ps : List Stretch) : Type 0 where
   pub own : Stretch
   pub are : ps ≡ fields ++ (own ∷ [])
   pub within : IsWithin lo hi own
-  pub holds : AreWithin own.first own.behind fields
+  pub holds : AreWithin own.first own.following fields
 
 -- the place of an expression, of a pattern, of a simple statement holds those of its fields
 pub record Nested : Type 0 where
@@ -71,10 +71,10 @@ pub data Contains (s : Stretch) : List Stretch → Type 0 where
 
 -- one place holds the other, or they have no terminal in common
 pub data AreClear (s t : Stretch) : Type 0 where
-  holds : s.first ≤ t.first → t.behind ≤ s.behind → AreClear s t
-  is_held : t.first ≤ s.first → s.behind ≤ t.behind → AreClear s t
-  before : s.behind ≤ t.first → AreClear s t
-  behind : t.behind ≤ s.first → AreClear s t
+  holds : s.first ≤ t.first → t.following ≤ s.following → AreClear s t
+  is_held : t.first ≤ s.first → s.following ≤ t.following → AreClear s t
+  before : s.following ≤ t.first → AreClear s t
+  following : t.following ≤ s.first → AreClear s t
 
 abbrev pub AreLaminar : List Stretch → Type 0
 AreLaminar ss = (s t : Stretch) → Contains s ss → Contains t ss → AreClear s t
@@ -82,7 +82,7 @@ AreLaminar ss = (s t : Stretch) → Contains s ss → Contains t ss → AreClear
 -- of two places of a line one holds the other, or they are apart
 abbrev pub Apart : Type 0
 Apart = (profile : Profile) (inside : Bool) (ts : List Terminal) (f : Form) (d : FormAt profile inside ts f)
-    → AreLaminar (((places_at d).before ++ (places_at d).behind) ++ (places_at d).suite)
+    → AreLaminar (((places_at d).before ++ (places_at d).following) ++ (places_at d).suite)
 
 -- ---- In order.
 

@@ -4,13 +4,13 @@ use Rattle.pylex_lexeme.specs.Characters.{line_feed}
 use Rattle.pyplaces.specs.Stretches.{Span}
 use Rattle.pytree_marked.specs.MarkedNodes.{Attributes}
 
--- where lines start behind the LFs of some bytes, with so many bytes in front
-abbrev pub starts_behind : ℕ → List ℕ → List ℕ
-starts_behind n [] = []
-starts_behind n (c ∷ cs) = cond (c == line_feed) (suc n ∷ starts_behind (suc n) cs) (starts_behind (suc n) cs)
+-- where lines start after the LFs of some bytes, with so many bytes in front
+abbrev pub starts_after : ℕ → List ℕ → List ℕ
+starts_after n [] = []
+starts_after n (c ∷ cs) = cond (c == line_feed) (suc n ∷ starts_after (suc n) cs) (starts_after (suc n) cs)
 
 abbrev pub line_starts : List ℕ → List ℕ
-line_starts cs = 0 ∷ starts_behind 0 cs
+line_starts cs = 0 ∷ starts_after 0 cs
 
 -- none is less than one before it
 abbrev pub Rising : List ℕ → Type 0

@@ -14,7 +14,7 @@ in_decorators (AsyncFunctionDef name args body decorators returns params) = mark
 in_decorators (ClassDef name bases keywords body decorators params) = marked_rows (shown_exprs (exprs decorators))
 in_decorators _ = 0
 
--- the spans of a statement: of its parts, of its decorators, of its parts behind these, and its own
+-- the spans of a statement: of its parts, of its decorators, of its parts after these, and its own
 pub record HoldsItsParts (s : Stmt) (ps : List Span) : Type 0 where
   pub inside : List Span
   pub beside : List Span

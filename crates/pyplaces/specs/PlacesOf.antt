@@ -8,6 +8,6 @@ pub record PlacesOf : Type 0 where
   pub spans : List Span
   pub starts : List ℕ
 
--- what is shown of them behind the first so many
+-- what is shown of them after the first so many
 abbrev pub shown_from : ℕ → PlacesOf → List Attributes
 shown_from n p = map (attributes_by p.starts) (drop n p.spans)

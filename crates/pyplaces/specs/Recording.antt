@@ -11,11 +11,11 @@ pub record Recording : Type 0 where
 abbrev pub recording : List Span → List Span → List Span → Recording
 recording marks spans aside = record { marks = marks; spans = spans; aside = aside }
 
--- behind the place of one node more
+-- after the place of one node more
 abbrev pub recorded : Recording → Stretch → Recording
 recorded w s = recording w.marks (w.spans ++ span_of w.marks s ∷ []) w.aside
 
--- behind one more that is set aside
+-- after one more that is set aside
 abbrev pub put_aside : Recording → Stretch → Recording
 put_aside w s = recording w.marks w.spans (w.aside ++ span_of w.marks s ∷ [])
 
@@ -23,7 +23,7 @@ put_aside w s = recording w.marks w.spans (w.aside ++ span_of w.marks s ∷ [])
 abbrev pub emptied : Recording → Recording
 emptied w = recording w.marks [] []
 
--- a recorder behind some places
+-- a recorder after some places
 abbrev pub afters : {S : Type 0} → (S → Stretch → S) → S → List Stretch → S
 afters after w [] = w
 afters after w (s ∷ ss) = afters after (after w s) ss
@@ -32,7 +32,7 @@ afters after w (s ∷ ss) = afters after (after w s) ss
 pub record Records {S : Type 0} (after : S → Stretch → S) (old : S) (ps : List Stretch) (new : S) : Type 0 where
   pub is : new ≡ afters after old ps
 
--- All that is set aside behind n others is recorded, in front of what is recorded from then on; where the two are exchanged, what is
+-- All that is set aside after n others is recorded, in front of what is recorded from then on; where the two are exchanged, what is
 -- recorded is set aside.
 pub record Moves {S : Type 0} (after beside : S → Stretch → S) (count : S → ℕ) (n : ℕ) (old new : S) : Type 0 where
   pub is : (w : S) (ps : List Stretch) → old ≡ afters beside w ps → n ≡ count w → new ≡ afters after w ps
@@ -45,6 +45,6 @@ pub record Kept {S : Type 0} (after beside : S → Stretch → S) (old : S) (ps 
 pub record Alike {S : Type 0} (after : S → Stretch → S) (s t : Stretch) : Type 0 where
   pub is : (w : S) → after w s ≡ after w t
 
--- What P says of x with some places it says of y, with those recorded since behind them: a step of a loop, and the whole loop.
+-- What P says of x with some places it says of y, with those recorded since after them: a step of a loop, and the whole loop.
 abbrev pub Carried : {S A : Type 0} → (S → Stretch → S) → (A → List Stretch → Type 0) → A → A → S → S → Type 0
 Carried after P x y old new = (ps : List Stretch) → P x ps → (qs : List Stretch) × P y (ps ++ qs) × Records after old qs new

@@ -9,7 +9,7 @@ abbrev pub text_places : Stretch → List ℕ → List Stretch
 text_places row [] = []
 text_places row (c ∷ t) = row ∷ []
 
--- Of the parts so far, and the places within each field: the text behind the last field, and the places before that text.
+-- Of the parts so far, and the places within each field: the text after the last field, and the places before that text.
 pub data RowSoFar (row : Stretch) : List StringPart → List (List Stretch) → List ℕ → List Stretch → Type 0 where
   row_start : RowSoFar row [] [] [] []
   row_text : {ss : List StringPart} {fs : List (List Stretch)} {t : List ℕ} {ds : List Stretch} (s : List ℕ)

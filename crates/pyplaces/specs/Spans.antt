@@ -2,7 +2,7 @@
 use Rattle.std.specs.Prelude.{ℕ, ◌≤◌, List, [], ◌∷◌}
 use Rattle.pyparse_marks.specs.Spans.{Span}
 
--- it begins at one of these bytes or behind it, and ends at one or before it
+-- it begins at one of these bytes or after it, and ends at one or before it
 pub record LiesBetween (lo hi : ℕ) (s : Span) : Type 0 where
   pub begins : lo ≤ s.start
   pub forward : s.start ≤ s.stop

@@ -5,14 +5,14 @@ use Rattle.pytoken.specs.Terminals.{Terminal}
 use Rattle.pygrammar.specs.declared.levels.Level.{Level}
 use Rattle.pygrammar.specs.declared.levels.Level.TheVariants.{Or, And, Not, Compare, Factor, Power, Await}
 use Rattle.pygrammar.specs.Operators.{rank}
-use Rattle.pygrammar.specs.Precedence.{behind, infix_rank}
+use Rattle.pygrammar.specs.Precedence.{following, infix_rank}
 use Rattle.pygrammar.specs.Reader.{on_some}
 use Rattle.pyplaces.specs.Stretches.{Stretch}
 use Rattle.pyplaces.specs.Placed.{Placed}
 
 -- the rank of the operator that stands first
 abbrev pub turn : Terminal → ℕ
-turn t = on_some (behind t) infix_rank 0
+turn t = on_some (following t) infix_rank 0
 
 abbrev pub turn_of : List Terminal → ℕ
 turn_of [] = 0
@@ -34,9 +34,9 @@ follower Await = 21
 follower l = rank l
 
 -- an expression of a level of a rank of at least k, from i on, and its places
-pub record Standing (k : ℕ) (i : List Terminal) (at : ℕ) (e : Expr) (r : List Terminal) (behind : ℕ) (ps : List Stretch) : Type 0 where
+pub record Standing (k : ℕ) (i : List Terminal) (at : ℕ) (e : Expr) (r : List Terminal) (following : ℕ) (ps : List Stretch) : Type 0 where
   pub level : Level
-  pub placed : Placed level i at e r behind ps
+  pub placed : Placed level i at e r following ps
   pub least : k ≤ rank level
   pub most : rank level ≤ 22
   pub follows : turn_of r ≤ follower level

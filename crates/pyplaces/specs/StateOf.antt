@@ -10,10 +10,10 @@ use Rattle.pyplaces.specs.declared.place_stack.PlaceStack as given_stack
 
 -- the places of a line
 abbrev pub places_of : given_line.LineSpans → LinePlaces
-places_of z = record { whole = told z.whole; before = map told z.before.now; behind = map told z.behind.now; suite = map told z.suite.now }
+places_of z = record { whole = told z.whole; before = map told z.before.now; following = map told z.following.now; suite = map told z.suite.now }
 
 abbrev pub node_of : given_node.OpenNode → OpenNode
-node_of n = node n.level n.is_handler n.«from» (map told n.behind.items)
+node_of n = node n.level n.is_handler n.«from» (map told n.following.items)
 
 -- the innermost node stands last there
 abbrev pub state_of : given_stack.PlaceStack → State

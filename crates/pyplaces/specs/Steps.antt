@@ -32,7 +32,7 @@ has_parts ElseLine = false
 has_parts FinallyLine = false
 has_parts _ = true
 
--- whether it has parts that stand behind its body
+-- whether it has parts that stand after its body
 abbrev pub is_definition : Kind → Bool
 is_definition DefLine = true
 is_definition _ = false
@@ -40,16 +40,16 @@ is_definition _ = false
 -- ---- What is kept.
 
 -- a statement or handler whose last line may be still to come: the level of its header, where it begins, and the spans of its parts that
--- stand behind
+-- stand after
 -- its body
 pub record OpenNode : Type 0 where
   pub level : ℕ
   pub is_handler : Bool
   pub start : ℕ
-  pub behind : List Span
+  pub following : List Span
 
 abbrev pub node : ℕ → Bool → ℕ → List Span → OpenNode
-node level is_handler start behind = record { level = level; is_handler = is_handler; start = start; behind = behind }
+node level is_handler start following = record { level = level; is_handler = is_handler; start = start; following = following }
 
 -- the spans so far, those of decorators whose definition is still to come, the open nodes, the innermost first, and the end of the last
 -- line
@@ -73,7 +73,7 @@ ends l clause n = cond (clause && not n.is_handler) (nat_lt l n.level) (nat_le l
 
 -- what a node adds that ends here
 abbrev pub closing : ℕ → OpenNode → List Span
-closing stop n = n.behind ++ (span n.start stop ∷ [])
+closing stop n = n.following ++ (span n.start stop ∷ [])
 
 -- the nodes that end before a line
 abbrev pub settle_in : ℕ → Bool → List Span → List Span → List OpenNode → ℕ → State
@@ -95,8 +95,8 @@ place s l (decorator_form _) z = state s.spans (s.decorators ++ z.before) s.node
 place s l (header_form h suite) z =
     let k = header_kind h in
     let spans = (s.spans ++ cond (has_parts k) z.before []) ++ suite_in suite z in
-    let behind = s.decorators ++ cond (is_definition k) z.behind [] in
-    cond (begins_node k) (state spans [] (node l (is_except k) z.whole.start behind ∷ s.nodes) z.whole.stop)
+    let following = s.decorators ++ cond (is_definition k) z.following [] in
+    cond (begins_node k) (state spans [] (node l (is_except k) z.whole.start following ∷ s.nodes) z.whole.stop)
     (state spans s.decorators s.nodes z.whole.stop)
 
 abbrev pub step : State → Line → LinePlaces → State

@@ -48,7 +48,7 @@ pub(crate) fn has_parts(header: &Header) -> bool
     !matches!(header, Header::Try | Header::Else | Header::Finally)
 }
 
-/// Whether a header has parts that stand behind its body.
+/// Whether a header has parts that stand after its body.
 pub(crate) fn is_definition(header: &Header) -> bool
     ensures { result ≡ is_definition (header_kind (header_of header.now)) }
 {

@@ -9,8 +9,8 @@ pub struct LineSpans<'a> {
     pub whole: Span,
     /// A decorator's expression, or those parts of a header that stand before the body in the tree.
     pub before: &'a [Span],
-    /// Those parts of the header of a definition that stand behind the body in the tree.
-    pub behind: &'a [Span],
+    /// Those parts of the header of a definition that stand after the body in the tree.
+    pub following: &'a [Span],
     /// The simple statements that stand in it.
     pub suite: &'a [Span],
 }

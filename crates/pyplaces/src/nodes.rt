@@ -16,8 +16,8 @@ pub(crate) struct OpenNode {
     pub(crate) is_handler: bool,
     /// Where it begins.
     pub(crate) from: u32,
-    /// Of a definition its decorators, and the parts of its header that stand behind the body.
-    pub(crate) behind: Vec<Span>,
+    /// Of a definition its decorators, and the parts of its header that stand after the body.
+    pub(crate) following: Vec<Span>,
 }
 
 impl OpenNode {
@@ -33,7 +33,7 @@ impl OpenNode {
         }
     }
 
-    /// Adds what it has behind its body, and its own span, which ends here.
+    /// Adds what it has after its body, and its own span, which ends here.
     pub(crate) fn close(self, spans: &mut Vec<Span>, to: u32) -> Result<(), AllocError>
         ensures { OnOk result
             (map told spans.new.items ≡ map told spans.old.items ++ closing to (node_of self)) }
@@ -42,10 +42,10 @@ impl OpenNode {
             level: _,
             is_handler: _,
             from,
-            behind,
+            following,
         } = self;
-        let mut behind = behind;
-        spans.append(&mut behind)?;
+        let mut following = following;
+        spans.append(&mut following)?;
         spans.push(Span { from, to })?;
         Ok(())
     }

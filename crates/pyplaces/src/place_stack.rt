@@ -76,13 +76,13 @@ impl PlaceStack {
         put(&mut self.spans, given.suite, suite.is_some())?;
         self.to = given.whole.to;
         if begins_node(header) {
-            let mut behind = mem::replace(&mut self.decorators, Vec::new(alloc));
-            put(&mut behind, given.behind, is_definition(header))?;
+            let mut following = mem::replace(&mut self.decorators, Vec::new(alloc));
+            put(&mut following, given.following, is_definition(header))?;
             let node = OpenNode {
                 level,
                 is_handler: is_except(header),
                 from: given.whole.from,
-                behind,
+                following,
             };
             self.nodes.push(node)?;
         }

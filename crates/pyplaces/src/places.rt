@@ -35,7 +35,7 @@ fn lines_up_to(starts: &[u32], offset: u32) -> usize
     requires { Rising starts.now }
     ensures within { result ≤ length starts.now }
     ensures before { (k : ℕ) → k < result → slice_index starts.now k ≤ offset }
-    ensures behind { (k : ℕ) → result ≤ k → k < length starts.now → offset < slice_index starts.now k }
+    ensures following { (k : ℕ) → result ≤ k → k < length starts.now → offset < slice_index starts.now k }
 {
     let mut low = 0;
     let mut high = starts.len();
@@ -56,7 +56,7 @@ fn is_in_line(starts: &[u32], line: usize, offset: u32) -> bool
     requires { Rising starts.now }
     ensures within { result ≡ true → line ≤ length starts.now }
     ensures before { result ≡ true → (k : ℕ) → k < line → slice_index starts.now k ≤ offset }
-    ensures behind { result ≡ true → (k : ℕ) → line ≤ k → k < length starts.now
+    ensures following { result ≡ true → (k : ℕ) → line ≤ k → k < length starts.now
         → offset < slice_index starts.now k }
 {
     if line == 0 || line > starts.len() {
@@ -74,7 +74,7 @@ fn lines_from(starts: &[u32], near: usize, offset: u32) -> usize
     requires { Rising starts.now }
     ensures within { result ≤ length starts.now }
     ensures before { (k : ℕ) → k < result → slice_index starts.now k ≤ offset }
-    ensures behind { (k : ℕ) → result ≤ k → k < length starts.now → offset < slice_index starts.now k }
+    ensures following { (k : ℕ) → result ≤ k → k < length starts.now → offset < slice_index starts.now k }
 {
     if is_in_line(starts, near, offset) {
         return near;

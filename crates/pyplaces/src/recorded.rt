@@ -2,7 +2,7 @@
 
 ghost use Rattle.std.specs.Prelude.{◌≡◌, ◌++◌, map, take, drop, OnOk};
 ghost use Rattle.pyplaces.specs.Recording.{told};
-ghost use Rattle.pyplaces.specs.Stretches.{span_behind};
+ghost use Rattle.pyplaces.specs.Stretches.{span_after};
 
 use crate::recorders::Recorder;
 use crate::row_ends::row_end;
@@ -61,7 +61,7 @@ impl<'a> Recorded<'a> {
 /// The span of a terminal, and an empty one where there is none.
 #[tactic(auto, using(crate::proofs::MarkLemmas::mark_within, crate::proofs::MarkLemmas::mark_past))]
 fn mark_at(marks: &[Span], at: usize) -> Span
-    ensures { told result ≡ span_behind at (map told marks.now) }
+    ensures { told result ≡ span_after at (map told marks.now) }
 {
     match marks.get(at) {
         Some(mark) => *mark,

@@ -47,7 +47,7 @@ pub trait Recorder {
         ensures { OnOk result ((w : Self) (ps : List Stretch) → self.old ≡ afters beside w ps
             → from ≡ aside_count w → self.new ≡ afters after w ps) };
 
-    /// The place behind a row of literals and f-strings, from a place within its first f-string on; or
+    /// The place after a row of literals and f-strings, from a place within its first f-string on; or
     /// any number, where it makes no difference to what is recorded.
     fn row_end(&self, tokens: &[Terminal], at: usize) -> usize
         ensures { (first : ℕ) → Alike after (stretch first result)

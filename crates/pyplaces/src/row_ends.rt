@@ -23,11 +23,11 @@ fn inside(depth: usize) -> Option<usize>
     if depth == 0 { None } else { Some(depth) }
 }
 
-/// Within how many f-strings a row goes on behind a terminal that stands within `depth` of them, if
+/// Within how many f-strings a row goes on after a terminal that stands within `depth` of them, if
 /// it goes on.
-fn depth_behind(depth: usize, t: Terminal) -> Option<usize>
+fn depth_following(depth: usize, t: Terminal) -> Option<usize>
     requires { depth < usize.MAX }
-    ensures { result ≡ rows.depth_behind depth (terminal t.entry) }
+    ensures { result ≡ rows.depth_following depth (terminal t.entry) }
 {
     match t {
         Terminal::FormattedBegin => Some(depth + 1),
@@ -37,16 +37,16 @@ fn depth_behind(depth: usize, t: Terminal) -> Option<usize>
     }
 }
 
-/// The place behind a row, from a place within its first f-string on.
+/// The place after a row, from a place within its first f-string on.
 pub(crate) fn row_end(tokens: &[Terminal], at: usize) -> usize
     ensures { result ≡ at + row_length 1 (drop at (map terminal tokens.now)) }
 {
     let mut depth: usize = 1;
     let mut next = at;
     'row: while next < tokens.len() {
-        match depth_behind(depth, tokens[next]) {
-            Some(behind) => {
-                depth = behind;
+        match depth_following(depth, tokens[next]) {
+            Some(following) => {
+                depth = following;
                 next += 1;
             }
             None => return next,

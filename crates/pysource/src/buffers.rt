@@ -37,7 +37,7 @@ fn make_room(room: &mut Vec<u8>, from: usize, to: usize) -> Result<(usize, usize
     requires order { from ≤ to }
     requires within { to ≤ length room.old.items }
     ensures order { IfOk result (λ p. p.0 ≤ p.1) }
-    ensures behind { IfOk result (λ p. p.1 < length room.new.items) }
+    ensures following { IfOk result (λ p. p.1 < length room.new.items) }
     ensures same { IfOk result
         (λ p. take (p.1 - p.0) (drop p.0 room.new.items)
         ≡ take (to - from) (drop from room.old.items)) }

@@ -212,9 +212,9 @@ pub fn push_repr_points(out: &mut String, points: &[u32]) -> Result<(), AllocErr
         let (_, tail) = rest.split_at(count);
         match tail.split_first() {
             None => break 'runs,
-            Some((point, behind)) => {
+            Some((point, following)) => {
                 push_repr_point(out, quote, *point)?;
-                rest = behind;
+                rest = following;
             }
         }
     }

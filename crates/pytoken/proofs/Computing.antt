@@ -16,10 +16,10 @@ use Rattle.pylex_listing.specs.Margins.{width_by_one}
 use Rattle.pylex_listing.specs.Lines.{depth, line_so_far, is_at_margin, is_logical}
 use Rattle.pylex_listing.specs.Indentation.{width_from, width_at, widths, open_levels, layout_by, layout}
 use Rattle.pylex_listing.specs.Listing.{entry_of, steps_of, stop_fault, last_line, line_end_of_last, end_place, tail, stop, listing}
-use Rattle.pyfstring.specs.Texts.{unit_len, behind_text}
-use Rattle.pyfstring.specs.Expressions.{step, behind_expression}
+use Rattle.pyfstring.specs.Texts.{unit_len, after_text}
+use Rattle.pyfstring.specs.Expressions.{step, following_expression}
 use Rattle.pyfstring.specs.Singles.{single}
-use Rattle.pyfstring.specs.Cutting.{before, text_at, expression_at, kept_at, conversion_at, front_at, spec_at, behind_closing, field_at}
+use Rattle.pyfstring.specs.Cutting.{before, text_at, expression_at, kept_at, conversion_at, front_at, spec_at, after_closing, field_at}
 use Rattle.pyfstring.specs.Cutting.{cut_at, inner_field_at, spec_pieces_at, body_field_at, body_pieces_at, cut_of}
 use Rattle.pyfstring_tokens.specs.FieldTokens.{field_tokens, has_fault, closes_outer, has_comment}
 use Rattle.pytoken.specs.Keywords.{keywords, keyword_of}
@@ -51,8 +51,8 @@ values = tt
 
 -- what an f-string is cut into
 unfoldable cuts : Unit {0}
-unfolding unit_len behind_text step behind_expression before text_at expression_at kept_at conversion_at front_at spec_at
-    behind_closing field_at cut_at
+unfolding unit_len after_text step following_expression before text_at expression_at kept_at conversion_at front_at spec_at
+    after_closing field_at cut_at
     inner_field_at spec_pieces_at body_field_at body_pieces_at cut_of single
 cuts = tt
 

@@ -25,13 +25,13 @@ use Rattle.pytoken.proofs.ReadBack.{IsMark, Fits, Begins, begins, written, all_r
 
 -- Texts and bytes
 
--- what the front of a literal says, and what stands behind its prefix
-pub record Opened (bytes u : Bool) (t behind : List ℕ) : Type 0 where
+-- what the front of a literal says, and what stands after its prefix
+pub record Opened (bytes u : Bool) (t following : List ℕ) : Type 0 where
   pub raw : is_raw t ≡ false
   pub formatted : is_formatted t ≡ false
   pub of_bytes : is_bytes t ≡ bytes
   pub of_u : is_unicode t ≡ u
-  pub literal : drop (prefix_len_of t) t ≡ behind
+  pub literal : drop (prefix_len_of t) t ≡ following
 
 text_opened : (q : ℕ) (rest : List ℕ) → IsMark q → Opened false false (q ∷ rest) (q ∷ rest)
 text_opened q rest (inl is) = subst (λ (k : ℕ). Opened false false (k ∷ rest) (k ∷ rest)) (sym is)
@@ -58,7 +58,7 @@ not_three q t (begins a [] differs) = refl
 not_three q t (begins a (b ∷ rest) differs) =
     and_left (((q == 39) || (q == 34)) && (a == q)) (b == q) (and_right ((q == 39) || (q == 34)) (a == q) differs)
 
--- the text of a literal behind its prefix
+-- the text of a literal after its prefix
 abbrev between : (ℕ → Bool) → ℕ → List ℕ → List ℕ
 between test q cs = q ∷ flat_map (escaped test q) cs ++ q ∷ []
 

@@ -81,14 +81,14 @@ pub not_faulty : (o : Option TokenError) (p : Place) → o ≡ None → refusal_
 not_faulty (Some x) p h = absurd cc
 not_faulty None p h = refl
 
-abbrev refusal_behind : Option ListingFault → Option Refusal → Option Refusal
-refusal_behind o r = elim o [ Some f ↦ Some (refusals.Listing f) | None ↦ r ]
+abbrev refusal_after : Option ListingFault → Option Refusal → Option Refusal
+refusal_after o r = elim o [ Some f ↦ Some (refusals.Listing f) | None ↦ r ]
 
-pub not_refused : (o : Option ListingFault) (r : Option Refusal) → refusal_behind o r ≡ None → r ≡ None
+pub not_refused : (o : Option ListingFault) (r : Option Refusal) → refusal_after o r ≡ None → r ≡ None
 not_refused (Some f) r h = absurd cc
 not_refused None r h = h
 
--- where one of two isn't refused behind a listing, the other isn't where it isn't by itself
-pub as_refused : (o : Option ListingFault) (r q : Option Refusal) → refusal_behind o r ≡ None → q ≡ None → refusal_behind o q ≡ None
+-- where one of two isn't refused after a listing, the other isn't where it isn't by itself
+pub as_refused : (o : Option ListingFault) (r q : Option Refusal) → refusal_after o r ≡ None → q ≡ None → refusal_after o q ≡ None
 as_refused (Some f) r q h k = absurd cc
 as_refused None r q h k = k

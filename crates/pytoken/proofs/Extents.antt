@@ -114,9 +114,9 @@ All_front [] ys all = All-nil Faultless
 All_front (x ∷ xs) ys all =
     All-cons Faultless x xs (All-head Faultless x (xs ++ ys) all) (All_front xs ys (All-tail Faultless x (xs ++ ys) all))
 
-All_behind : (xs ys : List Token) → All Faultless (xs ++ ys) → All Faultless ys
-All_behind [] ys all = all
-All_behind (x ∷ xs) ys all = All_behind xs ys (All-tail Faultless x (xs ++ ys) all)
+All_after : (xs ys : List Token) → All Faultless (xs ++ ys) → All Faultless ys
+All_after [] ys all = all
+All_after (x ∷ xs) ys all = All_after xs ys (All-tail Faultless x (xs ++ ys) all)
 
 entry_faultless : (text : List ℕ) (e : Entry) (es : List Entry) → first_entry_refusal Plain text (e ∷ es) ≡ None
     → IsPlain e.kind (text_of text e)
@@ -155,7 +155,7 @@ also_plain text before (e ∷ es) none all =
     let plain = whole_is_plain e.kind (text_of text e) (literal_token text (is_open before) e (All_front own others all)) whole in
     none_from (entry_refusal Plain text e) (first_entry_refusal Plain text es)
     (not_faulty (fault_of Plain e.kind (text_of text e)) e.start plain)
-    (also_plain text (e ∷ before) es parts.1 (All_behind own others all))
+    (also_plain text (e ∷ before) es parts.1 (All_after own others all))
 
 pub extents_differ_in_numbers : (s : Source) → ExtentsDifferInNumbers s
 unfolding tokens refusal_at

@@ -56,7 +56,7 @@ hex_units q (suc n) c b t mark =
 
 letter_units : (q l n c b : ℕ) (t : List ℕ) → IsMark q → (l == 13) ≡ false →
     ends_by_one q (units (92 ∷ l ∷ hex n c ++ (b ∷ t))) ≡ ends_by_one q (units (b ∷ t))
-letter_units q l n c b t mark other = behind (hex n c ++ (b ∷ t)) (hex_units q n c b t mark) (starts n c)
+letter_units q l n c b t mark other = following (hex n c ++ (b ∷ t)) (hex_units q n c b t mark) (starts n c)
   where
     starts : (n c : ℕ) → (d : ℕ) × (u : List ℕ) × (hex n c ++ (b ∷ t) ≡ d ∷ u)
     starts zero c = (b, t, refl)
@@ -66,9 +66,9 @@ letter_units q l n c b t mark other = behind (hex n c ++ (b ∷ t)) (hex_units q
         first [] d = (d, b ∷ t, refl)
         first (x ∷ xs) d = (x, (xs ++ d ∷ []) ++ (b ∷ t), refl)
 
-    behind : (rest : List ℕ) → ends_by_one q (units rest) ≡ ends_by_one q (units (b ∷ t)) → (d : ℕ) × (u : List ℕ) × (rest ≡ d ∷ u) →
+    following : (rest : List ℕ) → ends_by_one q (units rest) ≡ ends_by_one q (units (b ∷ t)) → (d : ℕ) × (u : List ℕ) × (rest ≡ d ∷ u) →
         ends_by_one q (units (92 ∷ l ∷ rest)) ≡ ends_by_one q (units (b ∷ t))
-    behind rest same (d, u, e) =
+    following rest same (d, u, e) =
         ap (λ (v : List ℕ). ends_by_one q (units (92 ∷ l ∷ v))) e ∙ slash_unit q l d u mark other
         ∙ sym (ap (λ (v : List ℕ). ends_by_one q (units v)) e) ∙ same
 

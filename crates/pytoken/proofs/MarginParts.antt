@@ -1,7 +1,7 @@
--- On: the margin that a line still has to give behind some of its blanks, and what a lexeme's class
+-- On: the margin that a line still has to give after some of its blanks, and what a lexeme's class
 -- says of its first character.
 --
--- Carries: pending, eights, Fronts, text_behind and 11 more, for MarginWidths.
+-- Carries: pending, eights, Fronts, text_following and 11 more, for MarginWidths.
 use Rattle.std.proofs.Common.{◌≡◌, ℕ, ◌+◌, Bool, true, false, not, ◌&&◌, ◌==◌, cond, List, [], ◌∷◌, ◌++◌, length, drop, map}
 use Rattle.std.proofs.Common.{refl, sym, ap, ap₂, subst, ◌∙◌, arith, length-append, Option, Some, None}
 use Rattle.std.specs.Prelude.{option_map}
@@ -23,43 +23,43 @@ use Rattle.pylex_lexeme.specs.Numbers.{is_number}
 use Rattle.pylex_lexeme.specs.Lexemes.{is_name, is_comment, are_blanks, is_line_end, is_join, plain_class, class_in}
 use Rattle.pylex_listing.specs.Indentation.{column_after, width_from}
 use Rattle.pylex_listing.specs.Margins.{blanks_of, widths_of}
-use Rattle.pytoken.specs.Indentation.{Margin, behind_offset, margin_at}
+use Rattle.pytoken.specs.Indentation.{Margin, following_offset, margin_at}
 
--- The text behind an offset
+-- The text after an offset
 
 drop_whole : (a b : List ℕ) → drop (length a) (a ++ b) ≡ b
 drop_whole [] b = refl
 drop_whole (c ∷ a) b = drop_whole a b
 
-scalars_behind : (a b : List ℕ) → all_scalars (a ++ b) ≡ true → all_scalars b ≡ true
-scalars_behind [] b h = h
-scalars_behind (c ∷ a) b h = scalars_behind a b (and_parts (scalar c) (all_scalars (a ++ b)) h).1
+scalars_after : (a b : List ℕ) → all_scalars (a ++ b) ≡ true → all_scalars b ≡ true
+scalars_after [] b h = h
+scalars_after (c ∷ a) b h = scalars_after a b (and_parts (scalar c) (all_scalars (a ++ b)) h).1
 
-pub text_behind : (text a b : List ℕ) (o : ℕ) → all_scalars text ≡ true → text ≡ a ++ b → o ≡ bytes_in a → behind_offset text o ≡ b
-text_behind text a b o good whole at =
+pub text_following : (text a b : List ℕ) (o : ℕ) → all_scalars text ≡ true → text ≡ a ++ b → o ≡ bytes_in a → following_offset text o ≡ b
+text_following text a b o good whole at =
     let left : drop o (encode_utf8_all text) ≡ encode_utf8_all b =
     ap (λ (t : List ℕ). drop o (encode_utf8_all t)) whole ∙ ap (drop o) (encodes-append a b)
     ∙ ap (λ (n : ℕ). drop n (encode_utf8_all a ++ encode_utf8_all b)) at ∙ drop_whole (encode_utf8_all a) (encode_utf8_all b) in
-    let scalars : all_scalars b ≡ true = scalars_behind a b (sym (ap all_scalars whole) ∙ good) in
+    let scalars : all_scalars b ≡ true = scalars_after a b (sym (ap all_scalars whole) ∙ good) in
     ap chars left ∙ sym (chars_from_encodes b (encode_utf8_all b) (b, (scalars, refl)) refl)
 
 pub bytes_on : (a b : List ℕ) → bytes_in (a ++ b) ≡ bytes_in a + bytes_in b
 bytes_on a b = ap length (encodes-append a b) ∙ length-append (encode_utf8_all a) (encode_utf8_all b)
 
--- The margin that a line still has to give, behind some of its blanks
+-- The margin that a line still has to give, after some of its blanks
 
--- by whether only blanks stand before, their width, and the text behind them
+-- by whether only blanks stand before, their width, and the text after them
 abbrev pub pending : Bool → ℕ → List ℕ → List ℕ
 pending m w t = cond m (cond (begins_significant (drop (length (blanks_of t)) t)) (width_from w (blanks_of t) ∷ []) []) []
 
 abbrev pub eights : List Margin → List ℕ
 eights ms = map (λ m. m.widths.eight) ms
 
-pub margin_pends : (text : List ℕ) (o : ℕ) → eights (margin_at text o) ≡ pending true 0 (behind_offset text o)
+pub margin_pends : (text : List ℕ) (o : ℕ) → eights (margin_at text o) ≡ pending true 0 (following_offset text o)
 margin_pends text o = by (begins_significant (drop (length (blanks_of line)) line)) (record { widths = widths_of line; start = _ })
   where
     line : List ℕ
-    line = behind_offset text o
+    line = following_offset text o
 
     by : (b : Bool) (m : Margin) → eights (cond b (m ∷ []) []) ≡ cond b (m.widths.eight ∷ []) []
     by true m = refl

@@ -37,9 +37,9 @@ use Rattle.pylex_listing.specs.Laws.{AreLexemes}
 use Rattle.pylex_listing.proofs.Callers.{is_cut, longest_wins, significant_is}
 use Rattle.pytoken.specs.Brackets
 use Rattle.pytoken.specs.Brackets.{open_brackets}
-use Rattle.pytoken.specs.Indentation.{Margin, behind_offset, margin_at, ends_line, margins_from}
+use Rattle.pytoken.specs.Indentation.{Margin, following_offset, margin_at, ends_line, margins_from}
 use Rattle.pytoken.specs.Laws.{MarginsAreWidths}
-use Rattle.pytoken.proofs.MarginParts.{pending, eights, Fronts, text_behind, bytes_on, margin_pends, nothing_pends, pending_by, width_on}
+use Rattle.pytoken.proofs.MarginParts.{pending, eights, Fronts, text_following, bytes_on, margin_pends, nothing_pends, pending_by, width_on}
 use Rattle.pytoken.proofs.MarginParts.{pending_on, class_fronts, comment_front, line_end_front, blanks_all, significant_front}
 
 -- The brackets that are open, by entries and by lexemes
@@ -92,7 +92,7 @@ same_depth es before same = ap₂ (λ (m n : ℕ). m - n) same.opened same.close
 
 -- What some steps give
 
--- the widths of the lines that begin behind entries of these steps
+-- the widths of the lines that begin after entries of these steps
 abbrev given : List ℕ → List Entry → List Step → List ℕ
 given text es ss = eights (margins_from text es (entries_of (up_to_end ss)))
 
@@ -100,7 +100,7 @@ given text es ss = eights (margins_from text es (entries_of (up_to_end ss)))
 abbrev Comes : List Step → Type 0
 Comes ss = fault_of (up_to_end ss) ≡ None
 
--- behind some steps of which no line begins
+-- after some steps of which no line begins
 record Led (text : List ℕ) (before : List Lexeme) (es : List Entry) (front rest : List Step) : Type 0 where
   now : List Entry
   same : Same now before
@@ -161,7 +161,7 @@ module _ (text : List ℕ) (before : List Lexeme) (rest : List Step) where
 abbrev ends_at : List Lexeme → Lexeme → Bool
 ends_at before x = is_of_line_end x && (depth before == 0)
 
--- behind the entry of a lexeme: the next line begins where it ends one
+-- after the entry of a lexeme: the next line begins where it ends one
 record Entered (text : List ℕ) (before : List Lexeme) (x : Lexeme) (es : List Entry) (left : List ℕ) (rest : List Step) : Type 0 where
   now : List Entry
   same : Same now (x ∷ before)
@@ -169,14 +169,14 @@ record Entered (text : List ℕ) (before : List Lexeme) (x : Lexeme) (es : List 
   is : given text es (entry_of before x ++ rest) ≡ cond (ends_at before x) (pending true 0 left) [] ++ given text now rest
 
 given_line : (text : List ℕ) (es : List Entry) (e : Entry) (ss : List Step) (b : Bool) → ends_line es e ≡ b
-    → given text es (steps.Entry e ∷ ss) ≡ cond b (pending true 0 (behind_offset text e.to)) [] ++ given text (e ∷ es) ss
+    → given text es (steps.Entry e ∷ ss) ≡ cond b (pending true 0 (following_offset text e.to)) [] ++ given text (e ∷ es) ss
 given_line text es e ss b is = rw is (by b)
   where
     later : List Margin
     later = margins_from text (e ∷ es) (entries_of (up_to_end ss))
 
     by : (b : Bool) → eights (cond b (margin_at text e.to) [] ++ later) ≡ cond b
-        (pending true 0 (behind_offset text e.to)) [] ++ eights later
+        (pending true 0 (following_offset text e.to)) [] ++ eights later
     by true = map-append (λ m. m.widths.eight) (margin_at text e.to) later
         ∙ ap (λ (ws : List ℕ). ws ++ eights later) (margin_pends text e.to)
     by false = refl
@@ -188,31 +188,31 @@ module _ (text : List ℕ) (before : List Lexeme) (es : List Entry) (left : List
   unless_closer true e inner f comes = absurd cc
   unless_closer false e inner f comes = (comes, given_quiet text es e rest inner)
 
-  entry_led : (x : Lexeme) → Same es before → behind_offset text (bytes_in (text_before before) + bytes_in x.text) ≡ left
+  entry_led : (x : Lexeme) → Same es before → following_offset text (bytes_in (text_before before) + bytes_in x.text) ≡ left
       → Comes (entry_of before x ++ rest) → Entered text before x es left rest
   unfolding entry_of
-  entry_led x same behind comes = by_class x.«class» x.text behind comes
+  entry_led x same following comes = by_class x.«class» x.text following comes
     where
       of_line_end : (b : Bool) (t : List ℕ) (e : Entry) → e.kind ≡ cond b kinds.Newline kinds.Nl → e.exact ≡ None
           → e.to ≡ bytes_in (text_before before) + bytes_in t
-          → behind_offset text (bytes_in (text_before before) + bytes_in t) ≡ left
+          → following_offset text (bytes_in (text_before before) + bytes_in t) ≡ left
           → given text es (steps.Entry e ∷ rest) ≡ cond (depth before == 0) (pending true 0 left) [] ++ given text (e ∷ es) rest
-      of_line_end b t e kind exact at behind =
+      of_line_end b t e kind exact at following =
           given_line text es e rest (depth before == 0) (ends b kind ∙ ap (λ (n : ℕ). n == 0) (same_depth es before same))
           ∙ ap (λ (l : List ℕ). cond (depth before == 0) (pending true 0 l) [] ++ given text (e ∷ es) rest)
-          (ap (behind_offset text) at ∙ behind)
+          (ap (following_offset text) at ∙ following)
         where
           ends : (b : Bool) → e.kind ≡ cond b kinds.Newline kinds.Nl → ends_line es e ≡ (open_brackets es == 0)
           ends true k = rw k refl
           ends false k = rw k refl
 
-      by_class : (k : Class) (t : List ℕ) → behind_offset text (bytes_in (text_before before) + bytes_in t) ≡ left
+      by_class : (k : Class) (t : List ℕ) → following_offset text (bytes_in (text_before before) + bytes_in t) ≡ left
           → Comes (entry_of before (record { «class» = k; text = t }) ++ rest)
           → Entered text before (record { «class» = k; text = t }) es left rest
-      by_class Name t behind comes = record { now = _; same = same_on _ _ es before refl refl same; comes = comes; is = refl }
-      by_class Number t behind comes = record { now = _; same = same_on _ _ es before refl refl same; comes = comes; is = refl }
-      by_class String t behind comes = record { now = _; same = same_on _ _ es before refl refl same; comes = comes; is = refl }
-      by_class (Operator o) t behind comes =
+      by_class Name t following comes = record { now = _; same = same_on _ _ es before refl refl same; comes = comes; is = refl }
+      by_class Number t following comes = record { now = _; same = same_on _ _ es before refl refl same; comes = comes; is = refl }
+      by_class String t following comes = record { now = _; same = same_on _ _ es before refl refl same; comes = comes; is = refl }
+      by_class (Operator o) t following comes =
           let e : Entry = record {
             kind = kinds.Op;
             exact = Some o;
@@ -225,10 +225,10 @@ module _ (text : List ℕ) (before : List Lexeme) (es : List Entry) (left : List
           } in
           let parts = unless_closer (is_closer o && (depth before == 0)) e refl _ comes in
           record { now = e ∷ es; same = same_on e _ es before refl refl same; comes = parts.0; is = parts.1 }
-      by_class Comment t behind comes = record { now = _; same = same_on _ _ es before refl refl same; comes = comes; is = refl }
-      by_class Blanks t behind comes = record { now = es; same = same_over _ es before refl refl same; comes = comes; is = refl }
-      by_class Join t behind comes = record { now = es; same = same_over _ es before refl refl same; comes = comes; is = refl }
-      by_class LineEnd t behind comes =
+      by_class Comment t following comes = record { now = _; same = same_on _ _ es before refl refl same; comes = comes; is = refl }
+      by_class Blanks t following comes = record { now = es; same = same_over _ es before refl refl same; comes = comes; is = refl }
+      by_class Join t following comes = record { now = es; same = same_over _ es before refl refl same; comes = comes; is = refl }
+      by_class LineEnd t following comes =
           let e : Entry = record {
             kind = line_end_kind before;
             exact = None;
@@ -243,12 +243,12 @@ module _ (text : List ℕ) (before : List Lexeme) (es : List Entry) (left : List
             now = e ∷ es;
             same = same_on e _ es before refl refl same;
             comes = comes;
-            is = of_line_end (is_logical before && (depth before == 0)) t e refl refl refl behind;
+            is = of_line_end (is_logical before && (depth before == 0)) t e refl refl refl following;
           }
 
 -- One lexeme and its layout
 
--- the widths of the lines that begin among some lexemes, behind others
+-- the widths of the lines that begin among some lexemes, after others
 abbrev begun : List Lexeme → List Lexeme → List ℕ
 begun before [] = []
 begun before (x ∷ xs) = cond (is_at_margin before && is_significant x) (width_at before ∷ begun (x ∷ before) xs) (begun (x ∷ before) xs)
@@ -353,7 +353,7 @@ stop_faults fault p left =
     by (Some f) = (f, refl)
     by None = (_, refl)
 
--- behind no entry among some steps a logical line begins
+-- after no entry among some steps a logical line begins
 abbrev Still : List ℕ → List Step → Type 0
 Still text [] = Unit {0}
 Still text (steps.Entry e ∷ ss) = (margin_at text e.to ≡ []) × Still text ss
@@ -385,10 +385,10 @@ still_marks : (text : List ℕ) (n : ℕ) (e : Entry) → margin_at text e.to �
 still_marks text zero e h = tt
 still_marks text (suc n) e h = (h, still_marks text n e h)
 
-no_margin : (text : List ℕ) (o : ℕ) → behind_offset text o ≡ [] → margin_at text o ≡ []
+no_margin : (text : List ℕ) (o : ℕ) → following_offset text o ≡ [] → margin_at text o ≡ []
 unfolding begins_significant
 no_margin text o none =
-    let nothing : begins_significant (drop (length (blanks_of (behind_offset text o))) (behind_offset text o)) ≡ false =
+    let nothing : begins_significant (drop (length (blanks_of (following_offset text o))) (following_offset text o)) ≡ false =
     ap (λ (t : List ℕ). begins_significant (drop (length (blanks_of t)) t)) none in
     rw nothing refl
 
@@ -428,7 +428,7 @@ module _ (text : List ℕ) (good : all_scalars text ≡ true) (fault : Option Li
       by_fault nil (Some f) comes = absurd cc
       by_fault nil None comes =
           let at_end = no_margin text (bytes_in (text_before before))
-          (text_behind text (text_before before) left (bytes_in (text_before before)) good whole refl ∙ nil) in
+          (text_following text (text_before before) left (bytes_in (text_before before)) good whole refl ∙ nil) in
           ap (λ (us : List ℕ). us ++ given text es (tail before p))
           (ap (pending (is_at_margin before) (width_at before)) nil ∙ nothing_pends (is_at_margin before) (width_at before))
           ∙ still_given text (tail before p) es (tail_still text before at_end p)
@@ -452,22 +452,22 @@ module _ (text : List ℕ) (good : all_scalars text ≡ true) (fault : Option Li
       ap (λ (u : List ℕ). pending (is_at_margin before) (width_at before) u ++ given text es (stop fault before left)) (sym lexed.0)
       ∙ ending before es (whole ∙ ap (λ (u : List ℕ). text_before before ++ u) (sym lexed.0)) same comes
   along (x ∷ xs) before t es whole lexed same comes =
-      let behind = lexed.0 in
+      let following = lexed.0 in
       let rest = steps_from fault left (x ∷ before) xs in
       let first = cond (is_significant x) (layout before) [] in
-      let on : text ≡ text_before before ++ (x.text ++ behind) = whole ∙ ap (λ (u : List ℕ). text_before before ++ u) lexed.2 in
-      let whole' : text ≡ (text_before before ++ x.text) ++ behind = on ∙ sym (append_assoc (text_before before) x.text behind) in
+      let on : text ≡ text_before before ++ (x.text ++ following) = whole ∙ ap (λ (u : List ℕ). text_before before ++ u) lexed.2 in
+      let whole' : text ≡ (text_before before ++ x.text) ++ following = on ∙ sym (append_assoc (text_before before) x.text following) in
       let split : (first ++ entry_of before x) ++ rest ≡ first ++ (entry_of before x ++ rest) =
       append_assoc first (entry_of before x) rest in
       let led = led_cond text before (entry_of before x ++ rest) (is_significant x) es (layout before) []
       (layout_led text before (entry_of before x ++ rest) es same) (led_none text before (entry_of before x ++ rest) es same)
       (subst Comes split comes) in
-      let offset = text_behind text (text_before before ++ x.text) behind (bytes_in (text_before before) + bytes_in x.text) good whole'
+      let offset = text_following text (text_before before ++ x.text) following (bytes_in (text_before before) + bytes_in x.text) good whole'
       (sym (bytes_on (text_before before) x.text)) in
-      let entered = entry_led text before led.now behind rest x led.same offset led.comes in
-      let more = along xs (x ∷ before) behind entered.now whole' lexed.3 entered.same entered.comes in
+      let entered = entry_led text before led.now following rest x led.same offset led.comes in
+      let more = along xs (x ∷ before) following entered.now whole' lexed.3 entered.same entered.comes in
       ap (λ (us : List ℕ). pending (is_at_margin before) (width_at before) t ++ us) (ap (given text es) split ∙ led.is ∙ entered.is)
-      ∙ met before x t behind (given text entered.now rest) (begun (x ∷ before) xs) lexed.1 lexed.2 more
+      ∙ met before x t following (given text entered.now rest) (begun (x ∷ before) xs) lexed.1 lexed.2 more
 
 -- the lines that began, in their order
 in_order : (xs before : List Lexeme) → reverse (widths (reverse xs ++ before)) ≡ reverse (widths before) ++ begun before xs
@@ -500,7 +500,7 @@ margins_are_widths s good comes =
     let none : Same [] [] = record { opened = refl; closed = refl } in
     map-append (λ m. m.widths.eight) (margin_at text 0) (margins_from text (e ∷ []) (entries_of (up_to_end ss)))
     ∙ ap (λ (us : List ℕ). us ++ given text (e ∷ []) ss) (margin_pends text 0
-    ∙ ap (pending true 0) (text_behind text [] text 0 good refl refl))
+    ∙ ap (pending true 0) (text_following text [] text 0 good refl refl))
     ∙ along text good s.fault (left_by_cut text) (cut text) [] text (e ∷ []) refl (is_cut text).lexemes
     (same_under e [] [] refl refl none) comes
     ∙ sym (in_order (cut text) [])

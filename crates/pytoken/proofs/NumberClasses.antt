@@ -95,13 +95,13 @@ float_plain t h = elim (or_cases (is_point_after t || is_point_before t) (is_rai
   | inl pointed ↦ elim (or_cases (is_point_after t) (is_point_before t) pointed) [
     | inl after ↦
         let fraction = split_any (optional is_digit_part) (optional is_exponent) in
-        let behind = then_plain (optional is_digit_part) (optional is_exponent) (optional_all is_plain is_digit_part part_plain)
+        let following = then_plain (optional is_digit_part) (optional is_exponent) (optional_all is_plain is_digit_part part_plain)
         (optional_all is_plain is_exponent exponent_plain) in
-        then_plain is_digit_part (headed is_point fraction) part_plain (headed_all is_plain is_point fraction point_plain behind) t after
+        then_plain is_digit_part (headed is_point fraction) part_plain (headed_all is_plain is_point fraction point_plain following) t after
     | inr before ↦
         let fraction = split_any is_digit_part (optional is_exponent) in
-        let behind = then_plain is_digit_part (optional is_exponent) part_plain (optional_all is_plain is_exponent exponent_plain) in
-        headed_all is_plain is_point fraction point_plain behind t before
+        let following = then_plain is_digit_part (optional is_exponent) part_plain (optional_all is_plain is_exponent exponent_plain) in
+        headed_all is_plain is_point fraction point_plain following t before
   ]
   | inr raised ↦ then_plain is_digit_part is_exponent part_plain exponent_plain t raised
 ]

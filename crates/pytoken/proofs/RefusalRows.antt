@@ -90,19 +90,19 @@ unfolding sources values refusal_at
 no_refusal = refl
 
 -- if x:\n        y\n\tz\n
-tab_behind_blanks : refusal_at Plain 2 (source (codes "if x:\n        y\n" ++ (9 ∷ codes "z\n"))) ≡ Some (refusals.MixedTabs (at 3 1))
+tab_after_blanks : refusal_at Plain 2 (source (codes "if x:\n        y\n" ++ (9 ∷ codes "z\n"))) ≡ Some (refusals.MixedTabs (at 3 1))
 unfolding sources values refusal_at
-tab_behind_blanks = refl
+tab_after_blanks = refl
 
 -- if x:\n\ty\n        z\n
-blanks_behind_tab : refusal_at Plain 2 (source (codes "if x:\n" ++ (9 ∷ codes "y\n        z\n"))) ≡ Some (refusals.MixedTabs (at 3 8))
+blanks_after_tab : refusal_at Plain 2 (source (codes "if x:\n" ++ (9 ∷ codes "y\n        z\n"))) ≡ Some (refusals.MixedTabs (at 3 8))
 unfolding sources values refusal_at
-blanks_behind_tab = refl
+blanks_after_tab = refl
 
 -- if x:\n  y\n\tz\n
-tab_behind_two_blanks : refusal_at Plain 2 (source (codes "if x:\n  y\n" ++ (9 ∷ codes "z\n"))) ≡ Some (refusals.MixedTabs (at 3 1))
+tab_after_two_blanks : refusal_at Plain 2 (source (codes "if x:\n  y\n" ++ (9 ∷ codes "z\n"))) ≡ Some (refusals.MixedTabs (at 3 1))
 unfolding sources values refusal_at
-tab_behind_two_blanks = refl
+tab_after_two_blanks = refl
 
 -- if x:\n \ty\n\t z\n
 blank_and_tab_turned : refusal_at Plain 2 (source (codes "if x:\n " ++ (9 ∷ (codes "y\n" ++ (9 ∷ codes " z\n"))))) ≡ Some

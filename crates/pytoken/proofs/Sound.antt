@@ -48,9 +48,9 @@ use Rattle.pylex_listing.proofs.Callers.{scalars_of}
 
 -- the text of a lexeme is what stands between its offsets
 
-scalars_behind : (a b : List ℕ) → all_scalars (a ++ b) ≡ true → all_scalars b ≡ true
-scalars_behind [] b h = h
-scalars_behind (c ∷ a) b h = scalars_behind a b (and_parts (scalar c) (all_scalars (a ++ b)) h).1
+scalars_after : (a b : List ℕ) → all_scalars (a ++ b) ≡ true → all_scalars b ≡ true
+scalars_after [] b h = h
+scalars_after (c ∷ a) b h = scalars_after a b (and_parts (scalar c) (all_scalars (a ++ b)) h).1
 
 drop_whole : (a b : List ℕ) → drop (length a) (a ++ b) ≡ b
 drop_whole [] b = refl
@@ -75,7 +75,7 @@ own_text a t b e good first last =
     ∙ ap (take (e.to - e.«from»)) (drop_whole front (own ++ rest))
     ∙ ap (λ (n : ℕ). take n (own ++ rest)) size
     ∙ take_whole own rest in
-    let scalars = scalars_of t b (scalars_behind a (t ++ b) good) in
+    let scalars = scalars_of t b (scalars_after a (t ++ b) good) in
     ap chars between ∙ sym (chars_from_encodes t own (t, (scalars, refl)) refl)
 
 -- an entry's text is of its type
@@ -190,7 +190,7 @@ line_end_free : (b : Bool) (t : List ℕ) → is_of (cond b kinds.Newline kinds.
 line_end_free true t = refl
 line_end_free false t = refl
 
--- the steps before and behind a place
+-- the steps before and after a place
 module _ (cs : List ℕ) (before : List Lexeme) where
   dedents_are : (w : ℕ) (levels : List ℕ) (p : Place) → AllAre cs (dedents w levels (text_before before) p)
   dedents_are w levels p = replicate_are cs _ _ (of_any cs kinds.Dedent _ (λ t. refl) refl)

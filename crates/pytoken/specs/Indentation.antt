@@ -20,13 +20,13 @@ pub record Margin : Type 0 where
   pub start : Place
 
 -- the text after an offset
-abbrev pub behind_offset : List ℕ → ℕ → List ℕ
-behind_offset text o = chars (drop o (encode_utf8_all text))
+abbrev pub following_offset : List ℕ → ℕ → List ℕ
+following_offset text o = chars (drop o (encode_utf8_all text))
 
 -- The margin of the line that begins at an offset, if it is a logical line: not one that holds at most blanks and a comment (2.1.7).
 abbrev pub margin_at : List ℕ → ℕ → List Margin
 margin_at text o =
-    let line = behind_offset text o in
+    let line = following_offset text o in
     let indent = length (blanks_of line) in
     if begins_significant (drop indent line) then record {
       widths = widths_of line;

@@ -1,4 +1,4 @@
-pub mod Behind
+pub mod Following
 pub mod Cuts
 pub mod Pushing
 pub mod Readings

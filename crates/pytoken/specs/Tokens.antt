@@ -73,14 +73,14 @@ is kinds.Dedent t = elim t.kind [ kinds.Dedent ↦ true | _ ↦ false ]
 is _ t = false
 
 -- the levels that are open after some tokens: INDENTs less DEDENTs
-abbrev pub level_behind : List Token → ℕ
-level_behind before = count_by (is kinds.Indent) before - count_by (is kinds.Dedent) before
+abbrev pub level_after : List Token → ℕ
+level_after before = count_by (is kinds.Indent) before - count_by (is kinds.Dedent) before
 
 -- the lines from a place on: the tokens before it, those of its line so far, and those after it
 abbrev pub lines_from : List Token → List Token → List Token → List Line
 lines_from before line [] = []
 lines_from before line (t ∷ ts) = elim t.kind [
-  | kinds.Newline ↦ record { level = level_behind before; tokens = line } ∷ lines_from (t ∷ before) [] ts
+  | kinds.Newline ↦ record { level = level_after before; tokens = line } ∷ lines_from (t ∷ before) [] ts
   | kinds.Indent ↦ lines_from (t ∷ before) line ts
   | kinds.Dedent ↦ lines_from (t ∷ before) line ts
   | kinds.EndMarker ↦ lines_from (t ∷ before) line ts

@@ -30,10 +30,10 @@ pub fn is_identifier(text: &str) -> bool
 }
 
 /// Whether a character and the text after it are an identifier.
-fn is_spelled(first: char, behind: &str) -> bool
-    ensures { result ≡ (starts_name first && list_all is_xid_continue (chars behind.now)) }
+fn is_spelled(first: char, following: &str) -> bool
+    ensures { result ≡ (starts_name first && list_all is_xid_continue (chars following.now)) }
 {
-    starts_name(first) && goes_on(behind)
+    starts_name(first) && goes_on(following)
 }
 
 /// Whether an identifier may continue with each character of a text.

@@ -12,7 +12,7 @@ use Rattle.pytree_dump_text.specs.Shows.{Shown, Showns, Fields, Scalar, Row, Nod
 use Rattle.pytree_dump_text.specs.Layout.{before, deeper, fields, is_flat, is_short, members, shown_count, text}
 use Rattle.pytree_dump_text.specs.Slots.{with_slot}
 use Rattle.pytree_marked.specs.Appends.{Appends, AppendsField, AppendsNode, coming_with}
-use Rattle.pytree_marked.specs.MarkedNodes.{Attributes, Placed, behind, closed, fields_with, is_marked, rows_with, with_places}
+use Rattle.pytree_marked.specs.MarkedNodes.{Attributes, Placed, following, closed, fields_with, is_marked, rows_with, with_places}
 use Rattle.pytree_marked.specs.Taking.{is_none_left}
 use Rattle.pytree_marked.proofs.Callers.Shortness.{long_line, marked_line}
 use Rattle.pytree_dump.specs.declared.nodes.AnyPart.{AnyPart}
@@ -134,7 +134,7 @@ pub marked_ended : (s : Style) (f : List ℕ) {f1 f2 : List ℕ} (start : List �
     o2 ++ coming_with true s f1 ps1 t2 (fields_of (drop i xs))
     ≡ o1 ++ coming_with true s f1 ps (record { one_line = line; named = s.names; first = true }) (fields_of xs) →
     (fields_with ps1 (fields_of (drop i xs))).left ≡ (fields_with ps (fields_of xs)).left → f2 ≡ f1 →
-    o3 ≡ o2 ++ (coming_with true s f2 ps1 t2 no_field ++ codes ")") → ps2 ≡ behind true ps1
+    o3 ≡ o2 ++ (coming_with true s f2 ps1 t2 no_field ++ codes ")") → ps2 ≡ following true ps1
     → AppendsNode true s f o0 o3 ps ps2 start (fields_of ys)
 marked_ended s f {f1} {f2} start xs ys o0 {o1} o2 {o3} ps ps1 {ps2} {line} t2 {i} past listed deep is begun so_far left same e taken =
     let none : drop i xs ≡ [] = drop_all i xs past in
@@ -147,7 +147,7 @@ marked_ended s f {f1} {f2} start xs ys o0 {o1} o2 {o3} ps ps1 {ps2} {line} t2 {i
     ∙ sym (append_assoc o2 (coming_with true s f1 ps1 t2 no_field) (codes ")"))
     ∙ ap (λ z. z ++ codes ")") told in (
       node_shown s f f1 start all o0 o1 (o1 ++ fields s f1 line s.names true all) o3 line deep is begun refl whole,
-      taken ∙ ap (behind true)
+      taken ∙ ap (following true)
           ((λ k. (fields_with ps1 (fields_of (sym none k))).left) ∙ left ∙ (λ k. (fields_with ps (fields_of (listed k))).left)),
     )
 

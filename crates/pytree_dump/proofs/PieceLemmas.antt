@@ -40,19 +40,19 @@ pub module_pieces : (s : Style) (ps : List Attributes) {f0 f1 g1 f2 f3 b0 b1 b2 
 module_pieces s ps {f0} {f1} {g1} {f2} {f3} {b0} {b1} {b2} {b3} {e0} {e1} e2 {e3} {line} body items same none_begun none_ended
     top is_line hb1 hf1 hg1 hb2
     he1 he2 hf2 he3 hb3 hf3 =
-    let behind : Fields = a_field (codes "type_ignores") (Row no_shown) no_field in
+    let following : Fields = a_field (codes "type_ignores") (Row no_shown) no_field in
     let rows : Showns = (rows_with ps (showns (map (λ x. shown_stmt s.profile (stmt_of x)) body))).shown in
-    let all : Fields = a_field (codes "body") (Row rows) behind in
+    let all : Fields = a_field (codes "body") (Row rows) following in
     let begun : b3 ≡ (b1 ++ before line f1 true ++ label s.names (codes "body")) ++ codes "[" =
     hb3 ∙ ap (λ z. z ++ codes "[") (hb2 ∙ (λ i. b1 ++ before line (hg1 i) true ++ label s.names (codes "body"))) in
-    let ended : e3 ≡ (codes "]" ++ fields s f1 line s.names false behind) ++ codes ")" =
-    he3 ∙ ap (λ z. z ++ codes ")") (sym (append-nil e2) ∙ he2 ∙ ap (λ z. z ++ fields s f1 line s.names false behind) (he1
+    let ended : e3 ≡ (codes "]" ++ fields s f1 line s.names false following) ++ codes ")" =
+    he3 ∙ ap (λ z. z ++ codes ")") (sym (append-nil e2) ∙ he2 ∙ ap (λ z. z ++ fields s f1 line s.names false following) (he1
     ∙ ap (λ z. z ++ codes "]") none_ended)) in
     let deep : f3 ≡ deeper s.indent f1 = hf3 ∙ ap (deeper s.indent) hf2 in
     let xs : List ℕ = members s (deeper s.indent f1) true rows in
     let put : concat (b3 ∷ statement_pieces s f3 true e3 body ps) ≡
     ((b1 ++ before line f1 true ++ label s.names (codes "body")) ++ codes "[")
-    ++ (xs ++ ((codes "]" ++ fields s f1 line s.names false behind) ++ codes ")")) =
+    ++ (xs ++ ((codes "]" ++ fields s f1 line s.names false following) ++ codes ")")) =
     ap (λ z. b3 ++ z) (statements_whole s f3 true e3 body ps) ∙ (λ i. begun i ++ (members s (deep i) true rows ++ ended i)) in
     let whole : concat (b3 ∷ statement_pieces s f3 true e3 body ps) ≡ (b1 ++ fields s f1 line s.names true all) ++ codes ")" = put
     ∙ simp append_assoc refl in
@@ -60,7 +60,7 @@ module_pieces s ps {f0} {f1} {g1} {f2} {f3} {b0} {b1} {b2} {b3} {e0} {e1} e2 {e3
     module_text s f0 b0 _ ps _ body items same none_begun top
     (node_shown s f0 f1 (codes "Module(") all b0 b1 (b1 ++ fields s f1 line s.names true all) _ line hf1 one_line hb1 refl whole, refl)
 
--- a piece for each statement, and one behind them
+-- a piece for each statement, and one after them
 pub statement_count : (s : Style) (f : List ℕ) (first : Bool) (end : List ℕ) (body : List Stmt) (ps : List Attributes)
     → length (statement_pieces s f first end body ps) ≡ length body + 1
 statement_count s f first end [] ps = refl

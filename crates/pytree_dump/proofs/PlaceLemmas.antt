@@ -19,7 +19,7 @@ use Rattle.pytree_dump_text.specs.Shows.{Shown, Showns, Fields, Row, Node, a_fie
 use Rattle.pytree_dump_text.specs.Shows.{shown_module, shown_type_param}
 use Rattle.pytree_dump_text.specs.Layout.{before, deeper, dump_text, fields, is_flat, is_short, label, members, text}
 use Rattle.pytree_dump_text.specs.Slots.{Slot, missing, field, coming, is_missing, slot_name, slot_shown, with_slot}
-use Rattle.pytree_marked.specs.MarkedNodes.{Attributes, Placed, placed, behind, closed, fields_with, rows_with, with_places}
+use Rattle.pytree_marked.specs.MarkedNodes.{Attributes, Placed, placed, following, closed, fields_with, rows_with, with_places}
 use Rattle.pytree_marked.specs.Appends.{Appends, AppendsField, AppendsNode, coming_with}
 use Rattle.pytree_dump.specs.Inner.TypeParams.{type_params_before}
 use Rattle.pytree_dump.proofs.BlockLemmas.{stmts_row}
@@ -89,7 +89,7 @@ pub slot_absent : (s : Style) (f o : List ℕ) (ps : List Attributes) (t next : 
 slot_absent s f o ps t next missing gone h = absent_appended s f o ps t next h
 slot_absent s f o ps t next (field n x) gone h = absurd (both_ways false refl gone)
 
--- a field, and others behind it
+-- a field, and others after it
 pub then_field : {s : Style} {f g o o1 o2 : List ℕ} {ps ps1 ps2 : List Attributes} {t t1 t2 : Told} {F G : Fields → Fields} →
     AppendsField s f o o1 ps ps1 t t1 F → g ≡ f → AppendsField s g o1 o2 ps1 ps2 t1 t2 G
     → AppendsField s f o o2 ps ps2 t t2 (λ rest. F (G rest))
@@ -118,7 +118,7 @@ pub node_ended : (s : Style) (f : List ℕ) {f1 f2 : List ℕ} (start : List ℕ
     {ps ps1 ps2 : List Attributes} {line : Bool} {t2 : Told} →
     f1 ≡ deeper s.indent f → line ≡ (is_flat s.indent || is_short (closed true (fields_with ps (F no_field))).shown) → o1 ≡ o0 ++ start →
     AppendsField s f1 o1 o2 ps ps1 (record { one_line = line; named = s.names; first = true }) t2 F → f2 ≡ f1 →
-    o3 ≡ o2 ++ (coming_with true s f2 ps1 t2 no_field ++ codes ")") → ps2 ≡ behind true ps1
+    o3 ≡ o2 ++ (coming_with true s f2 ps1 t2 no_field ++ codes ")") → ps2 ≡ following true ps1
     → AppendsNode true s f o0 o3 ps ps2 start (F no_field)
 node_ended s f {f1} {f2} start F o0 {o1} {o2} {o3} {ps} {ps1} {ps2} {line} {t2} deep is begun told same e taken =
     let all : Fields = (closed true (fields_with ps (F no_field))).shown in
@@ -128,7 +128,7 @@ node_ended s f {f1} {f2} start F o0 {o1} {o2} {o3} {ps} {ps1} {ps2} {line} {t2} 
     ∙ ap (λ z. z ++ codes ")") (told.text true no_field) in (
       node_shown s f f1 start all o0 o1 (o1 ++ fields s f1 line s.names true all) o3 line deep is begun refl whole,
       taken
-          ∙ ap (behind true) (told.left no_field),
+          ∙ ap (following true) (told.left no_field),
     )
 
 -- a node that isn't marked

@@ -54,7 +54,7 @@ pub(crate) fn show_match<P: PlaceSource>(
     Ok(())
 }
 
-/// Appends the cases of a `match` as a field, and tells how the fields behind it are told.
+/// Appends the cases of a `match` as a field, and tells how the fields after it are told.
 #[cycle(blocks)]
 fn show_matched<P: PlaceSource>(
     out: &mut String,

@@ -345,7 +345,7 @@ pub(crate) fn show_class<P: PlaceSource>(
 }
 
 /// Appends the parameters of a type as a field, where its Python has that field, and tells how what
-/// is behind it is told.
+/// is after it is told.
 fn show_type_params<P: PlaceSource>(
     out: &mut String,
     indentation: &mut String,

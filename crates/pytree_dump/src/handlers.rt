@@ -17,7 +17,7 @@ use pytree_marked::{PlaceSource, end_node, is_told_on_line};
 use pytree_node::{Handler, Stmt};
 use std::alloc::AllocError;
 
-/// Appends the handlers of a `try` as a field, and tells how the fields behind it are told.
+/// Appends the handlers of a `try` as a field, and tells how the fields after it are told.
 #[cycle(blocks)]
 pub(crate) fn show_caught<P: PlaceSource>(
     out: &mut String,

@@ -18,7 +18,7 @@ use std::alloc::{AllocError, Global};
 ///
 /// Python library reference, `ast`: `ast.dump`. The text is one line, or a line for each field and
 /// each member of a list; a node of at most three simple fields stays on one line. A field that is
-/// None is left out, and the fields behind it have their names. The only error is of memory.
+/// None is left out, and the fields after it have their names. The only error is of memory.
 pub fn dump(alloc: Global, tree: &Module, style: Style) -> Result<String, AllocError>
     ensures { IfOk result
         (λ t. string_bytes t ≡ dump_text style (shown_module style.profile (module_of tree.now))) }
@@ -29,7 +29,7 @@ pub fn dump(alloc: Global, tree: &Module, style: Style) -> Result<String, AllocE
 /// The dump text of a module with the places of its nodes: what Python's `ast.dump` gives with
 /// attributes.
 ///
-/// The places are taken in the order in which the dump writes them, that of a node behind those in
+/// The places are taken in the order in which the dump writes them, that of a node after those in
 /// its fields, one for each node that has a place. Where none is left, no more are shown.
 #[inline(always)]
 pub fn dump_placed<P: PlaceSource>(

@@ -24,9 +24,9 @@ use std::marker::Model;
 enum Stage {
     /// Before all of them.
     Begin,
-    /// At a statement, the first of the module or a later one, or behind the last.
+    /// At a statement, the first of the module or a later one, or after the last.
     Statements { first: bool },
-    /// Behind all of them.
+    /// After all of them.
     Done,
 }
 
@@ -117,7 +117,7 @@ impl<'a, P: PlaceSource> PlacedPieces<'a, P> {
         })
     }
 
-    /// Appends the next piece, and tells whether there was one. Behind an error nothing is said of
+    /// Appends the next piece, and tells whether there was one. After an error nothing is said of
     /// the text.
     #[inline(always)]
     pub fn push_next(&mut self, out: &mut String) -> Result<bool, AllocError>
@@ -185,7 +185,7 @@ impl<'a> Pieces<'a> {
         Ok(Pieces { bare })
     }
 
-    /// Appends the next piece, and tells whether there was one. Behind an error nothing is said of
+    /// Appends the next piece, and tells whether there was one. After an error nothing is said of
     /// the text.
     pub fn push_next(&mut self, out: &mut String) -> Result<bool, AllocError>
         ensures text { OnOk result

@@ -291,7 +291,7 @@ fn show_stmts<P: PlaceSource>(
     Ok(())
 }
 
-/// Appends a block as a field, and tells how the fields behind it are told.
+/// Appends a block as a field, and tells how the fields after it are told.
 #[cycle(blocks)]
 pub(crate) fn show_block<P: PlaceSource>(
     out: &mut String,

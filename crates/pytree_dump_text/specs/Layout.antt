@@ -61,7 +61,7 @@ abbrev mutual
   members s indentation first (a_shown x xs) = before (is_flat s.indent) indentation first ++ text s indentation x ++
       members s indentation false xs
 
-  -- once a field is left out, those behind it are named
+  -- once a field is left out, those after it are named
   pub fields : Style → List ℕ → Bool → Bool → Bool → Fields → List ℕ
   fields s indentation one_line named first no_field = []
   fields s indentation one_line named first (left_out fs) = fields s indentation one_line true first fs

@@ -88,7 +88,7 @@ context_name context.Load = codes "Load"
 context_name context.Store = codes "Store"
 context_name context.Del = codes "Del"
 
--- a conversion is -1, or the code of the letter behind `!`
+-- a conversion is -1, or the code of the letter after `!`
 abbrev pub conversion_number : Conversion → List ℕ
 conversion_number conversion.None = codes "-1"
 conversion_number conversion.Str = codes "115"

@@ -79,7 +79,7 @@ slot_of (part.Flag name b) = field (field_name name) (shown_flag b)
 slot_of part.Kind = field (codes "kind") (Scalar (codes "'u'"))
 slot_of part.LeftOut = missing
 
--- what a constant shows behind its value
+-- what a constant shows after its value
 abbrev pub kind_shown : Bool → Value → List ℕ
 kind_shown named (value.Str points true) = codes ", " ++ label named (codes "kind") ++ codes "'u'"
 kind_shown named _ = []

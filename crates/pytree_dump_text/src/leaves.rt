@@ -126,7 +126,7 @@ fn constant_start(named: bool) -> &'static str
     }
 }
 
-/// The end of a constant, behind its value.
+/// The end of a constant, after its value.
 fn constant_end(named: bool, value: &Constant) -> &'static str
     ensures { result.now ≡ kind_shown named (constant_of value.now) ++ codes ")" }
 {

@@ -49,8 +49,8 @@ pub ruleset counts = (count_exprs, count_optionals, count_arguments, some_clause
 pub fewer : (m a b : ℕ) → m ≤ a → leb m a ≡ leb m (a + b)
 fewer m a b h = le-leb m a h ∙ sym (le-leb m (a + b) (omega (arith, h)))
 
-pub fewer_behind : (m a b : ℕ) → a < m → leb (m - a) b ≡ leb m (a + b)
-fewer_behind m a b h = elim (cases_Bool (leb (m - a) b)) [
+pub fewer_after : (m a b : ℕ) → a < m → leb (m - a) b ≡ leb m (a + b)
+fewer_after m a b h = elim (cases_Bool (leb (m - a) b)) [
   | inl fits ↦ fits ∙ sym (le-leb m (a + b) (omega (arith, h, leb-true (m - a) b fits)))
   | inr over ↦ over ∙ sym (lt-leb m (a + b) (omega (arith, h, leb-false (m - a) b over)))
 ]

@@ -29,32 +29,32 @@ dotless_chars : (bs : List ℕ) → IsUtf8 bs → IsDotless bs → list_all is_o
 dotless_chars bs u w = subst (λ cs. list_all is_other cs ≡ true) (chars_from_encodes w.0 bs u w.1) (others w.0 w.2)
 
 -- the characters around a dot
-pub chars_around : (part behind : List ℕ) → IsUtf8 part → chars (part ++ (46 ∷ behind)) ≡ chars part ++ (46 ∷ chars behind)
+pub chars_around : (part following : List ℕ) → IsUtf8 part → chars (part ++ (46 ∷ following)) ≡ chars part ++ (46 ∷ chars following)
 unfolding chars lib.Utf8.encode
-chars_around part behind u =
+chars_around part following u =
     let dot : IsUtf8 (46 ∷ []) = (46 ∷ [], (refl, refl)) in
-    chars-append part (46 ∷ behind) u ∙ ap (λ z. chars part ++ z) (chars-append (46 ∷ []) behind dot)
+    chars-append part (46 ∷ following) u ∙ ap (λ z. chars part ++ z) (chars-append (46 ∷ []) following dot)
 
 -- what stands on both sides of a dot is text
-pub sides : (part behind : List ℕ) → IsUtf8 (part ++ (46 ∷ behind)) → IsUtf8 part × IsUtf8 behind
-sides part behind u =
-    let bs = part ++ (46 ∷ behind) in
-    let at : get_or bs (length part) 0 ≡ 46 = get_or_at part 46 behind 0 (length part) refl in
+pub sides : (part following : List ℕ) → IsUtf8 (part ++ (46 ∷ following)) → IsUtf8 part × IsUtf8 following
+sides part following u =
+    let bs = part ++ (46 ∷ following) in
+    let at : get_or bs (length part) 0 ≡ 46 = get_or_at part 46 following 0 (length part) refl in
     let inside : length part < length bs = simp length-append (omega arith) in
     let front = IsUtf8-take bs (length part) u (IsCharBoundary-before_ascii bs (length part) inside (omega (arith, at))) in
-    let same : (part ++ (46 ∷ [])) ++ behind ≡ bs = append_assoc part (46 ∷ []) behind in
+    let same : (part ++ (46 ∷ [])) ++ following ≡ bs = append_assoc part (46 ∷ []) following in
     let long : length (part ++ (46 ∷ [])) ≡ length part + 1 = length-append part (46 ∷ []) in
     let back = IsUtf8-drop bs (length part + 1) u (IsCharBoundary-after_ascii bs (length part) u inside (omega (arith, at))) in (
-      subst IsUtf8 (take_at part (46 ∷ behind) (length part) refl) front,
-      subst IsUtf8 (ap (drop (length part + 1)) (sym same) ∙ drop_at (part ++ (46 ∷ [])) behind (length part + 1) long) back,
+      subst IsUtf8 (take_at part (46 ∷ following) (length part) refl) front,
+      subst IsUtf8 (ap (drop (length part + 1)) (sym same) ∙ drop_at (part ++ (46 ∷ [])) following (length part + 1) long) back,
     )
 
-around_dot : (text part behind : List ℕ) → IsUtf8 text → text ≡ part ++ (46 ∷ behind) → IsDotless part
-    → dotted is_name (chars text) ≡ (is_name (chars part) && dotted is_name (chars behind))
-around_dot text part behind u e h =
-    let v = (sides part behind (subst IsUtf8 e u)).0 in
-    ap (λ z. dotted is_name (chars z)) e ∙ ap (dotted is_name) (chars_around part behind v)
-    ∙ ap (list_all is_name) (part_before_dot (chars part) (chars behind) (dotless_chars part v h))
+around_dot : (text part following : List ℕ) → IsUtf8 text → text ≡ part ++ (46 ∷ following) → IsDotless part
+    → dotted is_name (chars text) ≡ (is_name (chars part) && dotted is_name (chars following))
+around_dot text part following u e h =
+    let v = (sides part following (subst IsUtf8 e u)).0 in
+    ap (λ z. dotted is_name (chars z)) e ∙ ap (dotted is_name) (chars_around part following v)
+    ∙ ap (list_all is_name) (part_before_dot (chars part) (chars following) (dotless_chars part v h))
 
 without_dot : (text : List ℕ) → IsUtf8 text → IsDotless text → dotted is_name (chars text) ≡ is_name (chars text)
 without_dot text u h = ap (list_all is_name) (one_part (chars text) (dotless_chars text u h)) ∙ and-true (is_name (chars text))

@@ -42,7 +42,7 @@ module _ (e : Expr) where
     pub not_singleton : singleton_fits (tree_of e) ≡ false
     not_singleton = no_singleton_is (tree_of e) (has_class e)
 
-    -- behind a minus
+    -- after a minus
     no_minus_is : (n : Tests) (op : UnaryOperator) (t : plain.Expr) → HasClass t e → real_fits n (plain.UnaryOp op t) ≡ false
     no_minus_is n op (plain.Constant _) h = absurd (no_constant h.0 h.1)
     no_minus_is n op _ h = refl

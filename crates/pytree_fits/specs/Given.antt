@@ -18,7 +18,7 @@ use Rattle.pygrammar.specs.Lines.{Line, line, Form}
 use Rattle.pygrammar.specs.Forms.{FormAt, is_whole}
 use Rattle.pygrammar.specs.Blocks.{Block, stands_in_match}
 use Rattle.pygrammar.specs.Refusals.{terminals}
-use Rattle.pygrammar.specs.OpenStrings.{Open, open_behind}
+use Rattle.pygrammar.specs.OpenStrings.{Open, open_following}
 use Rattle.pytree_fits.specs.Tests.{Tests, depth_in, within}
 use Rattle.pytree_fits.specs.Literals.{is_value, has_formatted_text}
 
@@ -57,13 +57,13 @@ passes n o _ = true
 -- so do all, where so much is open before them
 abbrev pub all_pass : Tests → Open → List Terminal → Bool
 all_pass n o [] = true
-all_pass n o (t ∷ ts) = passes n o t && all_pass n (open_behind o t) ts
+all_pass n o (t ∷ ts) = passes n o t && all_pass n (open_following o t) ts
 
 -- a relation gives this to some list of such terminals
 abbrev pub Given : {A : Type 0} → Tests → (List Terminal → A → Type 0) → A → Type 0
 Given n r a = (ts : List Terminal) × (all_pass n [] ts ≡ true) × r ts a
 
--- lines whose forms at their places are given, behind earlier ones, of which the nearest comes first
+-- lines whose forms at their places are given, after earlier ones, of which the nearest comes first
 pub data AreGiven (profile : Profile) (n : Tests) : List Line → List Line → Type 0 where
   no_line : {earlier : List Line} → AreGiven profile n earlier []
   a_line : {earlier : List Line} {x : Line} {xs : List Line} →
@@ -93,7 +93,7 @@ pub record Patterned (extent : Extent) (l : PatternLevel) (p : Pattern) : Type 0
   pub sound : AreSound extent tokens
   pub derived : DerivesPattern l (flat_map (λ t. terminals_of t.kind t.text) tokens) p
 
--- lines of such tokens, and their forms at their places in a version of Python, behind earlier ones, of which the nearest comes first
+-- lines of such tokens, and their forms at their places in a version of Python, after earlier ones, of which the nearest comes first
 pub data HaveForms (profile : Profile) : List Line → List Tokens.Line → List Line → Type 0 where
   no_form : {earlier : List Line} → HaveForms profile earlier [] []
   a_form : {earlier : List Line} {x : Tokens.Line} {xs : List Tokens.Line} {f : Form} {ys : List Line} →

@@ -93,8 +93,8 @@ abbrev pub is_text : Expr → Bool
 is_text (Trees.Constant v) = true
 is_text _ = false
 
--- no two texts stand side by side, behind a text or not
-abbrev pub are_apart : (behind_text : Bool) → Exprs → Bool
+-- no two texts stand side by side, after a text or not
+abbrev pub are_apart : (after_text : Bool) → Exprs → Bool
 are_apart b no_exprs = true
 are_apart b (an_expr e es) = not (b && is_text e) && are_apart (is_text e) es
 

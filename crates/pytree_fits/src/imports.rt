@@ -18,11 +18,11 @@ pub(crate) fn dotted_fits(alloc: Global, name: &str) -> Result<bool, AllocError>
     ensures { IfOk result (λ told. told ≡ dotted is_name (chars name.now)) }
 {
     let mut rest = name;
-    while let Some((part, behind)) = rest.split_once('.') {
+    while let Some((part, following)) = rest.split_once('.') {
         if !is_name(alloc, part)? {
             return Ok(false);
         }
-        rest = behind;
+        rest = following;
     }
     is_name(alloc, rest)
 }

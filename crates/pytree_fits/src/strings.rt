@@ -138,13 +138,13 @@ fn is_text(value: &Expr) -> bool
 fn are_apart(values: &[Expr]) -> bool
     ensures { result ≡ are_apart false (exprs (map tree_of values.now)) }
 {
-    let mut behind_text = false;
+    let mut after_text = false;
     for value in values {
         let is_text = is_text(value);
-        if behind_text && is_text {
+        if after_text && is_text {
             return false;
         }
-        behind_text = is_text;
+        after_text = is_text;
     }
     true
 }

@@ -23,7 +23,7 @@ pub optional_counts : (e : Option Expr) → marked_optional (optional e) ≡ mar
 optional_counts None = refl
 optional_counts (Some e) = refl
 
--- one count behind another
+-- one count after another
 pub two_on : (here a b : ℕ) {mid next : ℕ} → mid ≡ capped (here + a) → next ≡ capped (mid + b) → next ≡ capped (here + (a + b))
 two_on here a b e f =
     let k : here + a + b ≡ here + (a + b) = omega arith in

@@ -26,7 +26,7 @@ members_text o o1 o2 o3 o4 b0 n0 d0 b1 n1 d1 b2 n2 d2 b3 n3 d3 e1 e2 e3 e4 =
     e4 ∙ (λ i. (e3 ∙ (λ j. (e2 ∙ (λ k. e1 k ++ (b1 ++ (n1 ++ d1)))) j ++ (b2 ++ (n2 ++ d2)))) i ++ (b3 ++ (n3 ++ d3)))
     ∙ member_parts o b0 n0 d0 b1 n1 d1 b2 n2 d2 b3 n3 d3
 
--- behind a marked node's fields
+-- after a marked node's fields
 bare_ended : (ps : List Attributes) (s : Style) (f o : List ℕ) (told : Told) → None ≡ first_left ps
     → o ≡ o ++ coming_with true s f ps told no_field
 bare_ended [] s f o told e = sym (append-nil o)
@@ -51,6 +51,6 @@ pub place_shown : (ps : List Attributes) (r : Option given.Shown) (p : given.Sho
 place_shown ps r p s f o o1 told taken some grown =
     members_ended ps (attributes p) s f o o1 told (sym (ap (option_map attributes) some) ∙ taken) grown
 
--- the bracket behind them
+-- the bracket after them
 pub ended : (o o1 o2 x : List ℕ) → o1 ≡ o ++ x → o2 ≡ o1 ++ codes ")" → o2 ≡ o ++ (x ++ codes ")")
 ended o o1 o2 x e1 e2 = e2 ∙ ap (λ z. z ++ codes ")") e1 ∙ append_assoc o x (codes ")")

@@ -21,7 +21,7 @@ AppendsNode is_marked s indentation o o1 ps ps1 start fs =
     (o1 ≡ o ++ node_text s indentation start (closed is_marked (fields_with ps fs)).shown) ×
     (ps1 ≡ (closed is_marked (fields_with ps fs)).left)
 
--- A field, which stands before the fields that are still to come, or fields: how these are told behind it.
+-- A field, which stands before the fields that are still to come, or fields: how these are told after it.
 pub record AppendsField (s : Style) (indentation o o1 : List ℕ) (ps ps1 : List Attributes) (told next : Told) (add : Fields
     → Fields) : Type 0 where
   pub text : (is_marked : Bool) (rest : Fields) → o1 ++ coming_with is_marked s indentation ps1 next rest ≡ o ++ coming_with is_marked s

@@ -1,4 +1,4 @@
--- Which nodes of what is shown have a span, and the same with four members more behind the fields of each.
+-- Which nodes of what is shown have a span, and the same with four members more after the fields of each.
 use Rattle.std.specs.Prelude.{ℕ, ◌+◌, Bool, true, false, cond, ◌||◌, List, [], ◌∷◌, codes, decimal}
 use Rattle.std.specs.Str.{bytes_eq}
 use Rattle.pytree_dump_text.specs.Shows.{Shown, Showns, Fields, Scalar, Row, Node, no_shown, a_shown, no_field, a_field, left_out}
@@ -79,20 +79,20 @@ with_members no_field more = more
 with_members (a_field name x fs) more = a_field name x (with_members fs more)
 with_members (left_out fs) more = left_out (with_members fs more)
 
--- the members of a node that is marked or isn't, where so many places are left, and the places behind its own
+-- the members of a node that is marked or isn't, where so many places are left, and the places after its own
 abbrev pub own : Bool → List Attributes → Fields
 own false ps = no_field
 own true [] = no_field
 own true (p ∷ ps) = members p
 
-abbrev pub behind : Bool → List Attributes → List Attributes
-behind false ps = ps
-behind true [] = []
-behind true (p ∷ ps) = ps
+abbrev pub following : Bool → List Attributes → List Attributes
+following false ps = ps
+following true [] = []
+following true (p ∷ ps) = ps
 
 -- a node whose fields are written
 abbrev pub closed : Bool → Placed Fields → Placed Fields
-closed is_marked fs = placed (with_members fs.shown (own is_marked fs.left)) (behind is_marked fs.left)
+closed is_marked fs = placed (with_members fs.shown (own is_marked fs.left)) (following is_marked fs.left)
 
 abbrev mutual
   pub with_places : List Attributes → Shown → Placed Shown

@@ -7,7 +7,7 @@ ghost use Rattle.pytree_dump_text.specs.declared.styles.Style.{Style};
 ghost use Rattle.pytree_dump_text.specs.Layout.{before, deeper, is_flat};
 ghost use Rattle.pytree_dump_text.specs.Shows.{no_field};
 ghost use Rattle.pytree_dump_text.specs.Slots.{coming};
-ghost use Rattle.pytree_marked.specs.MarkedNodes.{behind, members};
+ghost use Rattle.pytree_marked.specs.MarkedNodes.{following, members};
 ghost use Rattle.pytree_marked.specs.Appends.{coming_with};
 ghost use Rattle.pytree_marked.specs.Taking.{attributes, is_none_left};
 
@@ -100,7 +100,7 @@ fn push_members(
     }
 }
 
-/// Appends the members of a marked node behind its fields: those that show the next place, where one
+/// Appends the members of a marked node after its fields: those that show the next place, where one
 /// is left.
 #[inline(always)]
 fn push_place<P: PlaceSource>(
@@ -112,7 +112,7 @@ fn push_place<P: PlaceSource>(
     ensures text { OnOk result ((style : Style)
         → string_bytes out.new ≡ string_bytes out.old
         ++ coming_with true style indentation.now (P.left places.old) told no_field) }
-    ensures left { OnOk result (P.left places.new ≡ behind true (P.left places.old)) }
+    ensures left { OnOk result (P.left places.new ≡ following true (P.left places.old)) }
 {
     match places.next() {
         None => Ok(()),
@@ -140,7 +140,7 @@ pub fn end_node<P: PlaceSource>(
         ++ codes ")")) }
     ensures indentation { OnOk result
         (string_bytes indentation.new ≡ take outer (string_bytes indentation.old)) }
-    ensures left { OnOk result (P.left places.new ≡ behind true (P.left places.old)) }
+    ensures left { OnOk result (P.left places.new ≡ following true (P.left places.old)) }
 {
     push_place(out, indentation.as_str(), told, places)?;
     close(out, indentation, style, outer, ")")

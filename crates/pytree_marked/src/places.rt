@@ -2,7 +2,7 @@
 
 ghost use Rattle.std.specs.Prelude.{◌≡◌, List, [], map, true};
 ghost use Rattle.std.specs.Option.{option_map};
-ghost use Rattle.pytree_marked.specs.MarkedNodes.{Attributes, behind};
+ghost use Rattle.pytree_marked.specs.MarkedNodes.{Attributes, following};
 ghost use Rattle.pytree_marked.specs.Taking.{attributes, first_left, is_none_left};
 
 use crate::shown::Shown;
@@ -19,7 +19,7 @@ pub trait PlaceSource {
     /// Takes the next place, where one is left.
     fn next(&mut self) -> Option<Shown>
         ensures place { option_map attributes result ≡ first_left (left self.old) }
-        ensures left { left self.new ≡ behind true (left self.old) };
+        ensures left { left self.new ≡ following true (left self.old) };
 }
 
 /// No places.

@@ -36,7 +36,7 @@ wildcard_text : chars (95 ∷ []) ≡ low_line ∷ []
 unfolding chars
 wildcard_text = refl
 
--- ---- Patterns of a mapping behind their keys, and of a class behind their names: one more.
+-- ---- Patterns of a mapping after their keys, and of a class after their names: one more.
 
 abbrev pub keyed : List given_expr.Expr → List given.Pattern → List (List Sited)
 keyed ks ps = key_patterns piece (map tree_of ks) (patterns (map pattern_of ps))
@@ -119,7 +119,7 @@ within_brackets Level.Patterns [] h = refl
 within_brackets Level.Patterns (p ∷ ps) h = absurd (false≢true (sym h))
 within_brackets _ ps h = refl
 
--- members behind others, with commas between
+-- members after others, with commas between
 listed_both : {S : Type 0} (after : S → Sited → S) (s s1 : S) (xss yss : List (List Sited)) (b : Bool) → b ≡ is_nil xss
     → s1 ≡ puts after s (listed piece xss) →
     puts after s1 (members b comma yss) ≡ puts after s (listed piece (xss ++ yss))

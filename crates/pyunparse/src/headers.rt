@@ -22,7 +22,7 @@ use crate::expressions::write_expr;
 use crate::imports::write_as;
 use crate::parameters::write_parameters;
 use crate::patterns::write_pattern;
-use crate::statements::{write_behind, write_option};
+use crate::statements::{write_after, write_option};
 use crate::types::write_type_params;
 use pygrammar::{Level, PatternLevel};
 use pylex_listing::Exact;
@@ -216,7 +216,7 @@ pub(crate) fn write_function_header<W: Writer>(
     put_sign(out, Exact::LPar, Role::Tight)?;
     write_parameters(out, args)?;
     put_sign(out, Exact::RPar, Role::Trailing)?;
-    write_behind(out, Exact::RArrow, Level::Expression, returns)?;
+    write_after(out, Exact::RArrow, Level::Expression, returns)?;
     put_colon(out)
 }
 
@@ -273,7 +273,7 @@ pub(crate) fn write_match_header<W: Writer>(out: &mut W, subject: &Expr) -> Resu
 fn write_guard<W: Writer>(out: &mut W, guard: &Option<Expr>) -> Result<(), AllocError>
     ensures { OnOk result
         (out.new ≡ puts W.after out.old
-        (written.behind piece (written_word piece Key.If) Level.Named (option_of guard.now))) }
+        (written.following piece (written_word piece Key.If) Level.Named (option_of guard.now))) }
 {
     match guard {
         None => Ok(()),

@@ -8,9 +8,9 @@ ghost use Rattle.pygrammar.specs.declared.levels.Level.TheVariants as Level;
 ghost use Rattle.pyunparse_text.specs.Folds.{puts};
 ghost use Rattle.pyunparse.specs.Inner.Members.{members, padded};
 ghost use Rattle.pyunparse.specs.Inner.Parameters.{by_places, default_at, named, positional};
-ghost use Rattle.pyunparse.specs.Inner.Parameters.{slash_behind};
+ghost use Rattle.pyunparse.specs.Inner.Parameters.{slash_following};
 ghost use Rattle.pyunparse_text.specs.Pieces.{piece};
-ghost use Rattle.pyunparse_text.specs.Written.{behind_equal, beside, defaults, each, gathered, listed};
+ghost use Rattle.pyunparse_text.specs.Written.{after_equal, beside, defaults, each, gathered, listed};
 ghost use Rattle.pyunparse_text.specs.Written.{names, parameters, suffixed, tight, trailing, with_star};
 
 use crate::expressions::write_expr;
@@ -72,7 +72,7 @@ fn write_both<W: Writer>(
 
 /// Writes the `/` after parameters that may only be given by their places, if there are any.
 fn put_slash<W: Writer>(out: &mut W, count: usize) -> Result<(), AllocError>
-    ensures { OnOk result (out.new ≡ puts W.after out.old (slash_behind count)) }
+    ensures { OnOk result (out.new ≡ puts W.after out.old (slash_following count)) }
 {
     if count == 0 {
         return Ok(());
@@ -92,7 +92,7 @@ fn write_plain<W: Writer>(
 ) -> Result<(), AllocError>
     ensures { OnOk result (out.new ≡ puts W.after out.old (members is_first (trailing piece Comma)
         (padded (names piece (args (map arg_of params.now))) bare
-        (map (behind_equal piece)
+        (map (after_equal piece)
         (each piece Level.Expression (exprs (map tree_of given.now))))))) }
 {
     let mut first = is_first;

@@ -61,7 +61,7 @@ fn write_boxed<W: Writer>(
 }
 
 /// Writes a sign and an expression, or nothing.
-pub(crate) fn write_behind<W: Writer>(
+pub(crate) fn write_after<W: Writer>(
     out: &mut W,
     sign: Exact,
     level: Level,
@@ -69,7 +69,7 @@ pub(crate) fn write_behind<W: Writer>(
 ) -> Result<(), AllocError>
     ensures { OnOk result
         (out.new ≡ puts W.after out.old
-        (written.behind piece (sited (Op sign) false false) level (boxed_of e.now))) }
+        (written.following piece (sited (Op sign) false false) level (boxed_of e.now))) }
 {
     match e {
         None => Ok(()),
@@ -143,7 +143,7 @@ fn write_raise<W: Writer>(
 fn write_cause<W: Writer>(out: &mut W, cause: &Option<Box<Expr>>) -> Result<(), AllocError>
     ensures { OnOk result
         (out.new ≡ puts W.after out.old
-        (written.behind piece (word piece Key.From) Level.Expression (boxed_of cause.now))) }
+        (written.following piece (word piece Key.From) Level.Expression (boxed_of cause.now))) }
 {
     match cause {
         None => Ok(()),
@@ -173,7 +173,7 @@ fn write_assert<W: Writer>(
 fn write_message<W: Writer>(out: &mut W, msg: &Option<Box<Expr>>) -> Result<(), AllocError>
     ensures { OnOk result
         (out.new ≡ puts W.after out.old
-        (written.behind piece (trailing piece Comma) Level.Expression (boxed_of msg.now))) }
+        (written.following piece (trailing piece Comma) Level.Expression (boxed_of msg.now))) }
 {
     match msg {
         None => Ok(()),
@@ -243,7 +243,7 @@ pub(crate) fn write_simple<W: Writer>(out: &mut W, s: &Stmt) -> Result<(), Alloc
             write_annotated(out, target, *simple)?;
             put_sign(out, Exact::Colon, Role::Trailing)?;
             write_expr(out, Level::Expression, annotation)?;
-            write_behind(out, Exact::Equal, Level::Value, value)
+            write_after(out, Exact::Equal, Level::Value, value)
         }
         Stmt::TypeAlias {
             name,

@@ -8,7 +8,7 @@ ghost use Rattle.pygrammar.specs.declared.levels.Level.TheVariants as Level;
 ghost use Rattle.pyunparse.specs.Inner.Values.{value_elements};
 ghost use Rattle.pyunparse_text.specs.Folds.{puts, puts_elements};
 ghost use Rattle.pyunparse_text.specs.Pieces.{piece, pieces, sited_string};
-ghost use Rattle.pyunparse_text.specs.Written.{Text, elements_behind, field, joined};
+ghost use Rattle.pyunparse_text.specs.Written.{Text, elements_after, field, joined};
 ghost use Rattle.pyunparse_text.specs.Written.{spec_elements};
 ghost use Rattle.pyunparse_text.specs.Written as written;
 
@@ -28,7 +28,7 @@ pub(crate) fn write_joined<W: Writer>(out: &mut W, values: &[Expr]) -> Result<()
         (out.new ≡ puts W.after out.old
         (joined piece (written.is_unicode (exprs (map tree_of values.now)))
         (written.first_text (exprs (map tree_of values.now)))
-        (elements_behind piece false (exprs (map tree_of values.now))))) }
+        (elements_after piece false (exprs (map tree_of values.now))))) }
 {
     let text = first_text(values);
     if is_unicode(values) {
@@ -44,7 +44,7 @@ fn write_string<W: Writer>(out: &mut W, text: &[u32], values: &[Expr]) -> Result
     ensures { OnOk result
         (out.new ≡ puts W.after out.old
         (sited_string
-        (Text false text.now ∷ elements_behind piece false (exprs (map tree_of values.now)))
+        (Text false text.now ∷ elements_after piece false (exprs (map tree_of values.now)))
         ∷ [])) }
 {
     let in_field = out.begin_string()?;
@@ -82,7 +82,7 @@ fn write_values<W: Writer>(
 ) -> Result<(), AllocError>
     ensures { OnOk result
         (out.new ≡ puts_elements W.after W.step in_field out.old
-        (elements_behind piece in_spec (exprs (map tree_of values.now)))) }
+        (elements_after piece in_spec (exprs (map tree_of values.now)))) }
 {
     for i in 0..values.len() {
         let text = first_text(&values[i + 1..]);

@@ -45,7 +45,7 @@ fn write_type_param<W: Writer>(out: &mut W, param: &TypeParam) -> Result<(), All
 fn write_bound<W: Writer>(out: &mut W, bound: &Option<Expr>) -> Result<(), AllocError>
     ensures { OnOk result
         (out.new ≡ puts W.after out.old
-        (written.behind piece (trailing piece Colon) Level.Expression (option_of bound.now))) }
+        (written.following piece (trailing piece Colon) Level.Expression (option_of bound.now))) }
 {
     match bound {
         None => Ok(()),

@@ -9,20 +9,20 @@ use Rattle.pyunparse_text.specs.Spacing.{Piece, Line, lines_text, all_apart}
 use Rattle.pyunparse_text.specs.Tokens.{closes_all}
 
 abbrev name : List ℕ → Piece
-name t = record { kind = kinds.Name; text = t; before = false; behind = false }
+name t = record { kind = kinds.Name; text = t; before = false; following = false }
 
 -- a name directly after the points of an import
 abbrev module_name : List ℕ → Piece
-module_name t = record { kind = kinds.Name; text = t; before = true; behind = false }
+module_name t = record { kind = kinds.Name; text = t; before = true; following = false }
 
 abbrev number : List ℕ → Piece
-number t = record { kind = kinds.Number; text = t; before = false; behind = false }
+number t = record { kind = kinds.Number; text = t; before = false; following = false }
 
 abbrev string : List ℕ → Piece
-string t = record { kind = kinds.String; text = t; before = false; behind = false }
+string t = record { kind = kinds.String; text = t; before = false; following = false }
 
 abbrev sign : Bool → Bool → List ℕ → Piece
-sign l r t = record { kind = kinds.Op; text = t; before = l; behind = r }
+sign l r t = record { kind = kinds.Op; text = t; before = l; following = r }
 
 -- x = -f(a, *b, c=1)[1:, ::2]
 call_line : Line

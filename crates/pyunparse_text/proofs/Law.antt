@@ -12,7 +12,7 @@ use Rattle.pysource.specs.Cookies.{plain}
 use Rattle.pysource.specs.Parts.{Parts}
 use Rattle.pylex_listing.specs.Listing.{in_characters}
 use Rattle.pyunparse_text.specs.Spacing.{lines_text}
-use Rattle.pyunparse_text.specs.Tokens.{tokens_behind, is_written, rise_by_one, IsListedAs}
+use Rattle.pyunparse_text.specs.Tokens.{tokens_after, is_written, rise_by_one, IsListedAs}
 use Rattle.pyunparse_text.specs.SpacingLaws.{WrittenIsRead, WrittenIsClear}
 use Rattle.pyunparse_text.proofs.Sources.Clear.{clear}
 use Rattle.pyunparse_text.proofs.Sources.Decoding.{lines_source, lines_chars}
@@ -23,7 +23,7 @@ pub written_is_read : WrittenIsRead
 written_is_read ls w =
     let a = and_parts (list_all is_written ls) (rise_by_one 0 ls) w in
     let p : Parts = record { encoding = plain; text = encode_utf8_all (lines_text ls); fault = None } in
-    let l : IsListedAs (in_characters p) (tokens_behind 0 ls) = lines_listed (in_characters p) ls (lines_chars ls a.0) refl w in
+    let l : IsListedAs (in_characters p) (tokens_after 0 ls) = lines_listed (in_characters p) ls (lines_chars ls a.0) refl w in
     record {
       parts = p;
       source = lines_source ls a.0;

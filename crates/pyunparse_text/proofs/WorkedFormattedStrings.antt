@@ -20,7 +20,7 @@ use Rattle.pytoken.specs.Terminals.{Terminal, Op, in_form, Literal, FormattedBeg
 use Rattle.pytoken.specs.Terminals.{FieldEnd}
 use Rattle.pyunparse_text.specs.Spacing.{spaced}
 use Rattle.pyunparse_text.specs.Levels.{leads, reaches}
-use Rattle.pyunparse_text.specs.Written.{fit, written, elements_behind}
+use Rattle.pyunparse_text.specs.Written.{fit, written, elements_after}
 use Rattle.pyunparse_text.specs.Terminals.{terminals}
 use Rattle.pyunparse_text.specs.Pieces.{outside, pieces}
 
@@ -74,7 +74,7 @@ pub plain : AreWritten (
     row (with_spec (a_text (codes "\n") ∷ with_spec (a_text (codes "\t") ∷ []) By.Ascii w ∷ []) By.Repr x ∷ [])
     (codes "f'{x!r:\\n{w!a:\\t}}'") ∷
     row (a_text (codes "\\") ∷ field x ∷ a_text (codes "'") ∷ []) (codes "f'\\\\{x}\\''") ∷ [])
-unfolding written elements_behind fit reaches leads decimal_text
+unfolding written elements_after fit reaches leads decimal_text
 plain = refl
 
 -- Expressions of fields: a blank before a brace, brackets where the level asks for them.
@@ -90,7 +90,7 @@ fields : AreWritten (
     row (field (Subscript (Dict (optionals (Some (number 1) ∷ [])) (exprs (number 2 ∷ []))) (number 1) Load) ∷ [])
     (codes "f'{ {1: 2}[1]}'") ∷
     row (field (Set (exprs (number 1 ∷ []))) ∷ []) (codes "f'{ {1}}'") ∷ [])
-unfolding written elements_behind fit reaches leads decimal_text
+unfolding written elements_after fit reaches leads decimal_text
 fields = refl
 
 -- Literals in fields.
@@ -102,7 +102,7 @@ literals : AreWritten (
     row (field (JoinedStr (exprs (field x ∷ []))) ∷ []) (codes "f'{f\"{x}\"}'") ∷
     row (field (JoinedStr (exprs (with_spec (a_text (codes ">5") ∷ []) By.Repr x ∷ a_text (codes "=") ∷ field y ∷ []))) ∷ [])
     (codes "f'{f\"{x!r:>5}={y}\"}'") ∷ [])
-unfolding written elements_behind fit reaches leads decimal_text
+unfolding written elements_after fit reaches leads decimal_text
 literals = refl
 
 -- Texts of the kind u: a literal in front of the f-string has the first.
@@ -112,7 +112,7 @@ kinds : AreWritten (
     row (with_spec (of_kind_u (codes "\n") ∷ field y ∷ a_text (codes "\t") ∷ []) By.None x ∷ []) (codes "u'' f'{x:\\n{y}\\t}'") ∷
     row (of_kind_u (codes "\n") ∷ field (JoinedStr (exprs (of_kind_u (codes "b") ∷ field x ∷ []))) ∷ [])
     (codes "u'\\n' f'{u\"b\" f\"{x}\"}'") ∷ [])
-unfolding written elements_behind fit reaches leads decimal_text
+unfolding written elements_after fit reaches leads decimal_text
 kinds = refl
 
 -- As the grammar reads them: the expression of a field in round brackets. Each is one token, with a literal in front of it two.
@@ -160,7 +160,7 @@ rows =
     FieldEnd ∷ no_text ∷ FormattedEnd ∷ []) 1 ∷ []
 
 lists : AreRead rows
-unfolding written elements_behind fit reaches leads decimal_text
+unfolding written elements_after fit reaches leads decimal_text
 lists = refl
 
 counts : AreTokens rows

@@ -99,7 +99,7 @@ subjects : AreWritten (
 unfolding lines_of statement_lines case_lines written_pattern written fit reaches leads decimal_text
 subjects = refl
 
--- A sequence that is the whole pattern has no brackets, but has a comma behind one element; others have square ones.
+-- A sequence that is the whole pattern has no brackets, but has a comma after one element; others have square ones.
 sequences : AreWritten (
     of_case (sequence (p ∷ star (codes "b") ∷ [])) (codes "case a, *b:") ∷
     of_case (sequence (p ∷ [])) (codes "case a,:") ∷

@@ -9,7 +9,7 @@ use Rattle.pyunparse_text.specs.Pieces.{Sited, piece}
 
 -- a token with its text in UTF-8
 abbrev pub in_utf8 : Piece → Piece
-in_utf8 p = record { kind = p.kind; text = encode_utf8_all p.text; before = p.before; behind = p.behind }
+in_utf8 p = record { kind = p.kind; text = encode_utf8_all p.text; before = p.before; following = p.following }
 
 abbrev pub sited_in_utf8 : Sited → Sited
 sited_in_utf8 p is_in_field = in_utf8 (p is_in_field)

@@ -83,7 +83,7 @@ abbrev pub Sited : Type 0
 Sited = Bool → Piece
 
 abbrev pub sited : Terminal → Bool → Bool → Sited
-sited t before behind is_in_field = record { kind = kind_of t; text = text_of t is_in_field; before = before; behind = behind }
+sited t before following is_in_field = record { kind = kind_of t; text = text_of t is_in_field; before = before; following = following }
 
 -- tokens in a field, and elsewhere
 abbrev pub in_field : List Sited → List Piece
@@ -141,7 +141,7 @@ formatted_text is_in_field es = open_text is_in_field es ++ (quote is_in_field �
 
 -- an f-string is one token
 abbrev pub sited_string : List (Element Sited) → Sited
-sited_string es is_in_field = record { kind = kinds.String; text = formatted_text is_in_field es; before = false; behind = false }
+sited_string es is_in_field = record { kind = kinds.String; text = formatted_text is_in_field es; before = false; following = false }
 
 abbrev pub piece : Maker Sited
 piece = record { token = sited; formatted = λ es. sited_string es ∷ [] }

@@ -17,7 +17,7 @@ pub record Piece : Type 0 where
   pub kind : Kind
   pub text : List ℕ
   pub before : Bool
-  pub behind : Bool
+  pub following : Bool
 
 abbrev pub is_number_kind : Kind → Bool
 is_number_kind kinds.Number = true
@@ -40,18 +40,18 @@ is_token _ t = false
 -- keeps close to what comes after it, as a slice's does (a header's and a pair's don't).
 abbrev pub touches : Piece → Piece → Bool
 touches p q =
-    (p.behind || q.before) && not (is_number_kind p.kind && bytes_eq q.text (codes "."))
-    && not (bytes_eq p.text (codes ",") && (bytes_eq q.text (codes ":") && q.behind))
+    (p.following || q.before) && not (is_number_kind p.kind && bytes_eq q.text (codes "."))
+    && not (bytes_eq p.text (codes ",") && (bytes_eq q.text (codes ":") && q.following))
 
 -- the text after a piece of its line, up to the line end
-abbrev pub text_behind : Piece → List Piece → List ℕ
-text_behind p [] = []
-text_behind p (q ∷ qs) = (if touches p q then [] else space ∷ []) ++ (q.text ++ text_behind q qs)
+abbrev pub text_following : Piece → List Piece → List ℕ
+text_following p [] = []
+text_following p (q ∷ qs) = (if touches p q then [] else space ∷ []) ++ (q.text ++ text_following q qs)
 
 -- the text of pieces
 abbrev pub spaced : List Piece → List ℕ
 spaced [] = []
-spaced (p ∷ ps) = p.text ++ text_behind p ps
+spaced (p ∷ ps) = p.text ++ text_following p ps
 
 -- some operator begins with the text
 abbrev pub begins_operator : List ℕ → Bool

@@ -6,7 +6,7 @@ use Rattle.pysource.specs.Parts.{Parts}
 use Rattle.pysource.specs.Sources.{source_of}
 use Rattle.pylex_listing.specs.Listing.{in_characters}
 use Rattle.pyunparse_text.specs.Spacing.{Line, lines_text}
-use Rattle.pyunparse_text.specs.Tokens.{tokens_behind, opens_within, are_written, IsListedAs, unplaced, unplaced_line, token_line}
+use Rattle.pyunparse_text.specs.Tokens.{tokens_after, opens_within, are_written, IsListedAs, unplaced, unplaced_line, token_line}
 use Rattle.pytree_node.specs.declared.profiles.Extent.{Extent}
 use Rattle.pytoken.specs.Terminals.{fault_of}
 use Rattle.pytoken.specs.Tokens.{tokens, lines}
@@ -20,8 +20,8 @@ pub record ReadsBack (bytes : List ℕ) (ls : List Line) : Type 0 where
   pub encoding : parts.encoding ≡ plain
   pub text : parts.text ≡ bytes
   pub fault : parts.fault ≡ None
-  pub listed : IsListedAs (in_characters parts) (tokens_behind 0 ls)
-  pub tokens : map unplaced (tokens (in_characters parts)) ≡ tokens_behind 0 ls
+  pub listed : IsListedAs (in_characters parts) (tokens_after 0 ls)
+  pub tokens : map unplaced (tokens (in_characters parts)) ≡ tokens_after 0 ls
   pub lines : map unplaced_line (lines (in_characters parts)) ≡ map token_line ls
 
 -- The law of written lines: the UTF-8 of their text is read back as them.

@@ -91,9 +91,9 @@ module _ {A : Type 0} (make : Maker A) where
   perhaps_written l (Some e) = written make l e
 
   -- [t X]
-  abbrev pub behind : A → Level → Option Expr → List A
-  behind t l None = []
-  behind t l (Some e) = t ∷ written make l e
+  abbrev pub following : A → Level → Option Expr → List A
+  following t l None = []
+  following t l (Some e) = t ∷ written make l e
 
   -- ["as" NAME]
   abbrev pub as_name : Option Identifier → List A
@@ -110,7 +110,7 @@ module _ {A : Type 0} (make : Maker A) where
 
   -- [ "[" TypeParam,.. "]" ]
   abbrev pub type_param : TypeParam → List A
-  type_param (TypeVar x bound) = free make (in_form x) ∷ behind (trailing make Colon) Expression bound
+  type_param (TypeVar x bound) = free make (in_form x) ∷ following (trailing make Colon) Expression bound
   type_param (TypeVarTuple x) = leading make Star ∷ (free make (in_form x) ∷ [])
   type_param (ParamSpec x) = leading make DoubleStar ∷ (free make (in_form x) ∷ [])
 
@@ -169,12 +169,12 @@ module _ {A : Type 0} (make : Maker A) where
   simple_tokens (Trees.Assign es e) = targets es ++ written make Value e
   simple_tokens (Trees.AugAssign t o e) = written make Primary t ++ (free make (Op (augmented_sign o)) ∷ written make Value e)
   simple_tokens (Trees.AnnAssign t a v simple) =
-      annotated t simple ++ (trailing make Colon ∷ (written make Expression a ++ behind (free make (Op Equal)) Value v))
+      annotated t simple ++ (trailing make Colon ∷ (written make Expression a ++ following (free make (Op Equal)) Value v))
   simple_tokens (Trees.TypeAlias t ps e) =
       free make (in_form type_name) ∷ (written make Primary t ++ (type_params ps ++ (free make (Op Equal) ∷ written make Expression e)))
   simple_tokens (Trees.Return e) = word make Key.Return ∷ perhaps_written Stars e
-  simple_tokens (Trees.Raise e c) = word make Key.Raise ∷ (perhaps_written Expression e ++ behind (word make Key.From) Expression c)
-  simple_tokens (Trees.Assert e m) = word make Key.Assert ∷ (written make Expression e ++ behind (trailing make Comma) Expression m)
+  simple_tokens (Trees.Raise e c) = word make Key.Raise ∷ (perhaps_written Expression e ++ following (word make Key.From) Expression c)
+  simple_tokens (Trees.Assert e m) = word make Key.Assert ∷ (written make Expression e ++ following (trailing make Comma) Expression m)
   simple_tokens (Trees.Delete es) = word make Key.Del ∷ listed make (each make Expression (exprs es))
   simple_tokens (Trees.Global xs) = word make Key.Global ∷ listed make (map one_name xs)
   simple_tokens (Trees.Nonlocal xs) = word make Key.Nonlocal ∷ listed make (map one_name xs)
@@ -226,7 +226,7 @@ module _ {A : Type 0} (make : Maker A) where
   header_tokens finally_header = word make Key.Finally ∷ []
   header_tokens (def_header (function_head b x ps a r)) =
       async b ++ (word make Key.Def ∷ (free make (in_form x) ∷ (type_params ps
-      ++ (enclosed make (tight make LPar) RPar (listed make (parameters make a)) ++ behind (free make (Op RArrow)) Expression r))))
+      ++ (enclosed make (tight make LPar) RPar (listed make (parameters make a)) ++ following (free make (Op RArrow)) Expression r))))
   header_tokens (def_header (class_head x ps es ks)) = word make Key.Class ∷ (free make (in_form x) ∷ (type_params ps ++ bases es ks))
   header_tokens (match_header e) = free make (in_form match_name) ∷ written make Subject e
-  header_tokens (case_header p g) = free make (in_form case_name) ∷ (written_pattern make Patterns p ++ behind (word make Key.If) Named g)
+  header_tokens (case_header p g) = free make (in_form case_name) ∷ (written_pattern make Patterns p ++ following (word make Key.If) Named g)

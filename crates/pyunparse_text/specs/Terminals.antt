@@ -19,7 +19,7 @@ formatted_terminals es = FormattedBegin ∷ (flat_map element_terminals es ++ (F
 
 -- the grammar reads no blanks
 abbrev pub terminal : Maker Terminal
-terminal = record { token = λ t before behind. t; formatted = formatted_terminals }
+terminal = record { token = λ t before following. t; formatted = formatted_terminals }
 
 abbrev pub terminals : Level → Expr → List Terminal
 terminals l e = written terminal l e

@@ -70,9 +70,9 @@ abbrev pub line_tokens : ℕ → Line → List PlainToken
 line_tokens m l = level_tokens m l.level ++ (map token_of l.pieces ++ newline ∷ [])
 
 -- the tokens of lines that follow a line of level m, to the end
-abbrev pub tokens_behind : ℕ → List Line → List PlainToken
-tokens_behind m [] = replicate m dedent ++ end_marker ∷ []
-tokens_behind m (l ∷ ls) = line_tokens m l ++ tokens_behind l.level ls
+abbrev pub tokens_after : ℕ → List Line → List PlainToken
+tokens_after m [] = replicate m dedent ++ end_marker ∷ []
+tokens_after m (l ∷ ls) = line_tokens m l ++ tokens_after l.level ls
 
 -- a text that is an opening bracket, and a closing one
 abbrev pub is_opening : List ℕ → Bool

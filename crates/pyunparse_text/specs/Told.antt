@@ -6,7 +6,7 @@ use Rattle.pyunparse_text.specs.Spacing
 use Rattle.pyunparse_text.specs.Tokens.{PlainToken, token_of}
 use Rattle.pyunparse_text.specs.Pieces.{Sited}
 use Rattle.pyunparse_text.specs.Folds.{Step, Begin}
-use Rattle.pyunparse_text.specs.Writing.{Writing, behind, no_text, stepped}
+use Rattle.pyunparse_text.specs.Writing.{Writing, following, no_text, stepped}
 use Rattle.pyunparse_text.specs.declared.pieces.Piece as given
 
 -- of a token of the program
@@ -36,13 +36,13 @@ abbrev pub is_field : Option Writing → Bool
 is_field None = false
 is_field (Some w) = w.in_field
 
-abbrev pub behind_in : List PlainToken → Option Writing → Sited → Listed
-behind_in ts None p = listed (ts ++ token_of (p false) ∷ [])
-behind_in ts (Some w) p = record { tokens = ts; string = Some (behind w (p true)) }
+abbrev pub after_in : List PlainToken → Option Writing → Sited → Listed
+after_in ts None p = listed (ts ++ token_of (p false) ∷ [])
+after_in ts (Some w) p = record { tokens = ts; string = Some (following w (p true)) }
 
 -- after a token
-abbrev pub listed_behind : Listed → Sited → Listed
-listed_behind l p = behind_in l.tokens (field_of l.string) p
+abbrev pub listed_after : Listed → Sited → Listed
+listed_after l p = after_in l.tokens (field_of l.string) p
 
 -- the text after which an f-string begins
 abbrev pub or_none : Option Writing → Writing

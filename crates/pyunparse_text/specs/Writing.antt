@@ -22,14 +22,14 @@ abbrev pub no_text : Writing
 no_text = record { text = []; last = None; level = 0; in_field = false }
 
 abbrev pub edge_of : Piece → Edge
-edge_of p = record { behind = p.behind; number = is_number_kind p.kind; comma = bytes_eq p.text (codes ","); brace = false }
+edge_of p = record { following = p.following; number = is_number_kind p.kind; comma = bytes_eq p.text (codes ","); brace = false }
 
 -- a token touches the one before it
 abbrev pub meets : Edge → Piece → Bool
 meets e q =
     not (e.brace && begins_with left_curly_bracket q.text)
-    && ((e.behind || q.before) && not (e.number && bytes_eq q.text (codes ".")) && not
-    (e.comma && (bytes_eq q.text (codes ":") && q.behind)))
+    && ((e.following || q.before) && not (e.number && bytes_eq q.text (codes ".")) && not
+    (e.comma && (bytes_eq q.text (codes ":") && q.following)))
 
 -- the blank before a token
 abbrev pub blank : Option Edge → Piece → List ℕ
@@ -39,21 +39,21 @@ blank (Some e) q = if meets e q then [] else 32 ∷ []
 abbrev pub more : Writing → List ℕ → Writing
 more w t = record { text = w.text ++ t; last = w.last; level = w.level; in_field = w.in_field }
 
-abbrev pub behind : Writing → Piece → Writing
-behind w p = record { text = w.text ++ (blank w.last p ++ p.text); last = Some (edge_of p); level = w.level; in_field = w.in_field }
+abbrev pub following : Writing → Piece → Writing
+following w p = record { text = w.text ++ (blank w.last p ++ p.text); last = Some (edge_of p); level = w.level; in_field = w.in_field }
 
-abbrev pub behind_sited : Writing → Sited → Writing
-behind_sited w p = behind w (p w.in_field)
+abbrev pub after_sited : Writing → Sited → Writing
+after_sited w p = following w (p w.in_field)
 
 -- ---- F-strings.
 
 -- a STRING, whose text matters neither to the blank before it nor to what follows
 abbrev pub a_string : Piece
-a_string = record { kind = kinds.String; text = []; before = false; behind = false }
+a_string = record { kind = kinds.String; text = []; before = false; following = false }
 
 -- what the brace of a field says of what follows: only another brace doesn't touch it
 abbrev pub field_edge : Edge
-field_edge = record { behind = true; number = false; comma = false; brace = true }
+field_edge = record { following = true; number = false; comma = false; brace = true }
 
 -- with another last token, in a field or not
 abbrev pub turned : Writing → Edge → Bool → List ℕ → Writing

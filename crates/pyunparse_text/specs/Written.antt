@@ -190,8 +190,8 @@ module _ {A : Type 0} (make : Maker A) where
 
   -- ---- Parameters.
 
-  abbrev pub behind_equal : List A → List A
-  behind_equal ts = tight Equal ∷ ts
+  abbrev pub after_equal : List A → List A
+  after_equal ts = tight Equal ∷ ts
 
   -- `/` after as many as there are positional ones
   abbrev pub with_slash : List (List A) → List (List A) → List (List A)
@@ -216,8 +216,8 @@ module _ {A : Type 0} (make : Maker A) where
   -- in
   -- front of it, with the text that it begins with.
   abbrev pub joined : Bool → List ℕ → List (Element A) → List A
-  joined false t behind = make.formatted (Text false t ∷ behind)
-  joined true t behind = free (Literal (Values.Str t true)) ∷ make.formatted (Text false [] ∷ behind)
+  joined false t following = make.formatted (Text false t ∷ following)
+  joined true t following = free (Literal (Values.Str t true)) ∷ make.formatted (Text false [] ∷ following)
 
   -- ---- Expressions.
 
@@ -244,7 +244,7 @@ module _ {A : Type 0} (make : Maker A) where
     written l (Trees.Name x c) = free (in_form x) ∷ []
     written l (Trees.Constant v) = free (constant_terminal v) ∷ []
     written l (Trees.FormattedValue e c s) = make.formatted (field c (written Or e) (spec_elements s))
-    written l (Trees.JoinedStr es) = joined (is_unicode es) (first_text es) (elements_behind false es)
+    written l (Trees.JoinedStr es) = joined (is_unicode es) (first_text es) (elements_after false es)
     written l (Trees.Tuple es c) = tuple_of (tuple_level l (some_named es)) (lone_star es) (each (element_level l (some_named es)) es)
     written l (Trees.GeneratorExp e gs) = bracketed (written Named e ++ clauses gs)
     written l (Trees.ListOf es c) = enclosed (leading LSqb) RSqb (listed (each Elem es))
@@ -259,14 +259,14 @@ module _ {A : Type 0} (make : Maker A) where
     -- what follows a text among the values of a JoinedStr, of an f-string or of the format spec of a field: fields, and after each of them
     -- the text
     -- that follows it, perhaps an empty one
-    pub elements_behind : Bool → Exprs → List (Element A)
-    elements_behind b no_exprs = []
-    elements_behind b (an_expr (Trees.FormattedValue e c s) es) =
-        field c (written Or e) (spec_elements s) ++ (Text b (first_text es) ∷ elements_behind b es)
-    elements_behind b (an_expr e es) = elements_behind b es
+    pub elements_after : Bool → Exprs → List (Element A)
+    elements_after b no_exprs = []
+    elements_after b (an_expr (Trees.FormattedValue e c s) es) =
+        field c (written Or e) (spec_elements s) ++ (Text b (first_text es) ∷ elements_after b es)
+    elements_after b (an_expr e es) = elements_after b es
 
     pub spec_elements : OptionalExpr → List (Element A)
-    spec_elements (present (Trees.JoinedStr es)) = Spec ∷ (Text true (first_text es) ∷ elements_behind true es)
+    spec_elements (present (Trees.JoinedStr es)) = Spec ∷ (Text true (first_text es) ∷ elements_after true es)
     spec_elements _ = []
 
     pub each : Level → Exprs → List (List A)
@@ -314,7 +314,7 @@ module _ {A : Type 0} (make : Maker A) where
 
     pub parameters : Arguments → List (List A)
     parameters (arguments ps qs v ks kds k ds) =
-        with_slash (names ps) (with_defaults (names ps ++ names qs) (map behind_equal (each Expression ds))) ++
+        with_slash (names ps) (with_defaults (names ps ++ names qs) (map after_equal (each Expression ds))) ++
         (with_star (gathered Star v) (names ks) ++ (beside (names ks) (defaults kds) ++ gathered DoubleStar k))
 
     pub names : Args → List (List A)

@@ -4,7 +4,7 @@
 #[derive(Clone, Copy)]
 pub struct Edge {
     /// It keeps close to what stands after it.
-    pub behind: bool,
+    pub following: bool,
     /// It is a number, which a point doesn't touch.
     pub number: bool,
     /// It is a comma, which the colon of a slice doesn't touch.

@@ -74,9 +74,9 @@ impl PieceWriter {
 }
 
 impl Writer for PieceWriter {
-    ghost use Rattle.pyunparse_text.specs.Told.{is_field, listed_behind, listed_stepped};
+    ghost use Rattle.pyunparse_text.specs.Told.{is_field, listed_after, listed_stepped};
 
-    ghost after = { listed_behind };
+    ghost after = { listed_after };
 
     ghost is_in_field = { λ l. is_field l.string };
 

@@ -26,7 +26,7 @@ const INDENT: &str = "    ";
 
 /// What a literal says of what follows.
 const LITERAL: Edge = Edge {
-    behind: false,
+    following: false,
     number: false,
     comma: false,
     brace: false,
@@ -34,7 +34,7 @@ const LITERAL: Edge = Edge {
 
 /// What the brace of a field says of what follows.
 const FIELD: Edge = Edge {
-    behind: true,
+    following: true,
     number: false,
     comma: false,
     brace: true,
@@ -72,16 +72,16 @@ fn touches(edge: Edge, kind: Kind, text: &str, role: Role) -> bool
       kind = kind;
       text = text.now;
       before = is_close_before role;
-      behind = is_close_after role;
+      following = is_close_after role;
     }) }
 {
     let _kind = kind;
     let before = role.is_close_before();
-    let behind = role.is_close_after();
+    let following = role.is_close_after();
     !(edge.brace && begins_with_brace(text))
-        && (edge.behind | before)
+        && (edge.following | before)
         && !(edge.number && is_byte(text, b'.'))
-        && !(edge.comma && behind && is_byte(text, b':'))
+        && !(edge.comma && following && is_byte(text, b':'))
 }
 
 /// A text that tokens are appended to, with the blanks between them, and the front of its lines.
@@ -203,13 +203,13 @@ impl TextWriter {
             kind = kind;
             text = text.now;
             before = is_close_before role;
-            behind = is_close_after role;
+            following = is_close_after role;
           });
           last = Some (edge_of (record {
             kind = kind;
             text = text.now;
             before = is_close_before role;
-            behind = is_close_after role;
+            following = is_close_after role;
           }));
           level = self.old.level;
           in_field = self.old.in_field;
@@ -217,7 +217,7 @@ impl TextWriter {
     {
         self.put_blank(kind, text, role)?;
         self.last = Some(Edge {
-            behind: role.is_close_after(),
+            following: role.is_close_after(),
             number: is_number(kind),
             comma: is_byte(text, b','),
             brace: false,
@@ -251,7 +251,7 @@ impl TextWriter {
             kind = kind;
             text = text.now;
             before = is_close_before role;
-            behind = is_close_after role;
+            following = is_close_after role;
           });
           last = self.old.last;
           level = self.old.level;
@@ -273,7 +273,7 @@ impl TextWriter {
 impl Writer for TextWriter {
     ghost use Rattle.pyunparse_text.specs.Writing as writing;
 
-    ghost after = { writing.behind_sited };
+    ghost after = { writing.after_sited };
 
     ghost is_in_field = { λ w. w.in_field };
 

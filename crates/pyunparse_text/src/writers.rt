@@ -41,7 +41,7 @@ pub trait Writer {
           kind = kind;
           text = text.now;
           before = is_close_before role;
-          behind = is_close_after role;
+          following = is_close_after role;
         }))) };
 
     /// Writes a text constant.

@@ -33,7 +33,7 @@ pub(crate) fn counted(rt: &impl Abort, alloc: Global, text: &str) -> String {
     format!(in alloc; "{count} {:?}", comment.as_deref()).expect(rt, "memory")
 }
 
-/// The cursor behind two entries of a source, and the first step of a listing that is resumed there.
+/// The cursor after two entries of a source, and the first step of a listing that is resumed there.
 pub(crate) fn gone_on(rt: &impl Abort, alloc: Global, text: &str) -> String {
     let source = source_of(rt, alloc, text);
     let mut lister = Lister::new(alloc, &source);

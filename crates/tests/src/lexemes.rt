@@ -60,15 +60,15 @@ pub(crate) const ROWS: &str = "
 ? cursor => pytok1 0 0 0 0 0 0 0 => Text: malformed cursor
 ? cursor => pytok1 0 0 1 0 0 0 0,2,1 => Text: malformed cursor";
 
-/// The lexeme at the front of a text with its class, what stands behind it, and what its class is
+/// The lexeme at the front of a text with its class, what stands after it, and what its class is
 /// to a line: blanks, a line end, a join, and whether it makes its line logical.
 pub(crate) fn lexeme(rt: &impl Abort, alloc: Global, text: &str) -> String {
     match cut(text) {
-        Some((class, front, behind)) => {
+        Some((class, front, following)) => {
             let begins = begins_significant(text);
             let is_plain = class.is_blanks() || class.is_line_end();
             let (joins, makes) = (class.is_join(), class.is_significant());
-            format!(in alloc; "{class:?}|{front}|{behind}|{is_plain} {joins} {makes} {begins}")
+            format!(in alloc; "{class:?}|{front}|{following}|{is_plain} {joins} {makes} {begins}")
         }
         None => format!(in alloc; "none"),
     }

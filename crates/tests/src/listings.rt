@@ -157,7 +157,7 @@ fn push_entries(
 }
 
 /// The same of a lister that reads a source a byte at a time, from its start on, with the cursor
-/// behind that and the failures that were counted; or why there is no lister.
+/// after that and the failures that were counted; or why there is no lister.
 pub(crate) fn streamed(rt: &impl Abort, alloc: Global, text: &str, fails: bool) -> String {
     let bytes = bytes_of(rt, alloc, text);
     match StreamLister::new(alloc, FakeReader::new(bytes.as_slice(), 1, fails)) {
@@ -173,7 +173,7 @@ pub(crate) fn streamed(rt: &impl Abort, alloc: Global, text: &str, fails: bool) 
     .expect(rt, "memory")
 }
 
-/// The first step behind a cursor, by a lister that reads line by line; or why there is none.
+/// The first step after a cursor, by a lister that reads line by line; or why there is none.
 fn resumed_by_lines(
     rt: &impl Abort,
     alloc: Global,
@@ -188,7 +188,7 @@ fn resumed_by_lines(
     .expect(rt, "memory")
 }
 
-/// The first step behind a cursor by a lister of the whole source, whether it is resumed with a
+/// The first step after a cursor by a lister of the whole source, whether it is resumed with a
 /// look at the source before it or without; or why there is none.
 fn resumed_whole(rt: &impl Abort, alloc: Global, cursor: &Cursor, text: &str) -> String {
     let source = source_of(rt, alloc, text);
@@ -205,7 +205,7 @@ fn resumed_whole(rt: &impl Abort, alloc: Global, cursor: &Cursor, text: &str) ->
     .expect(rt, "memory")
 }
 
-/// What is shown of both listers behind a cursor, once where they show the same.
+/// What is shown of both listers after a cursor, once where they show the same.
 pub(crate) fn resumed(
     rt: &impl Abort,
     alloc: Global,
@@ -223,7 +223,7 @@ pub(crate) fn resumed(
     whole
 }
 
-/// The token that begins a line behind so many entries, with its place, if one does.
+/// The token that begins a line after so many entries, with its place, if one does.
 pub(crate) fn beginning(rt: &impl Abort, alloc: Global, entries: &str, text: &str) -> String {
     let source = source_of(rt, alloc, text);
     let mut lister = Lister::new(alloc, &source);

@@ -20,7 +20,7 @@ pub(crate) fn rows<'a>(rt: &impl Abort, table: &'a str) -> Split<'a, &'static st
     table.strip_prefix(ROW).expect(rt, "a row").split(ROW)
 }
 
-/// The two parts of a text, before and behind the first of these.
+/// The two parts of a text, before and after the first of these.
 pub(crate) fn parts<'a>(rt: &impl Abort, text: &'a str, between: &str) -> (&'a str, &'a str) {
     text.split_once(between).expect(rt, "two parts")
 }

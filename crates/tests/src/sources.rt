@@ -147,7 +147,7 @@ pub(crate) fn points(rt: &impl Abort, alloc: Global, text: &str) -> String {
     out
 }
 
-/// The code points of a text, of which each number is appended, and bytes behind them.
+/// The code points of a text, of which each number is appended, and bytes after them.
 pub(crate) fn appended(rt: &impl Abort, alloc: Global, text: &str) -> String {
     let mut points = Points::from_vec(numbers(rt, alloc, text)).expect(rt, "a text");
     points.push(0x10_FFFF).expect(rt, "memory");
@@ -156,7 +156,7 @@ pub(crate) fn appended(rt: &impl Abort, alloc: Global, text: &str) -> String {
     format!(in alloc; "{points:?} {copy:?} {}", points == copy).expect(rt, "memory")
 }
 
-/// The source that bytes are: its encoding, its text and the fault behind that.
+/// The source that bytes are: its encoding, its text and the fault after that.
 pub(crate) fn decoded(rt: &impl Abort, alloc: Global, text: &str) -> String {
     let bytes = bytes_of(rt, alloc, text);
     assert!(rt; bytes.as_slice().len() < 100);
@@ -249,7 +249,7 @@ pub(crate) fn lines(
     }
 }
 
-/// The answers to four calls for a line, each with the row behind it.
+/// The answers to four calls for a line, each with the row after it.
 pub(crate) fn line_rows(rt: &impl Abort, alloc: Global, text: &str) -> String {
     let mut reader = FakeReader::new(text.as_bytes(), 2, false);
     let mut lines = LineReader::new(alloc, &mut reader).expect(rt, "a reader");

@@ -227,7 +227,7 @@ pub(crate) fn terminal(rt: &impl Abort, alloc: Global, words: &str, text: &str) 
     format!(in alloc; "{terminal:?} {fault:?}").expect(rt, "memory")
 }
 
-/// Appends what a terminal is shown as, behind a blank: a text of an f-string by its repr.
+/// Appends what a terminal is shown as, after a blank: a text of an f-string by its repr.
 fn push_terminal(rt: &impl Abort, alloc: Global, out: &mut String, terminal: &Terminal<'_>) {
     push(rt, out, " ");
     if let Terminal::FormattedText(piece) = terminal {
@@ -360,7 +360,7 @@ fn push_line(
     push(rt, out, "; ");
 }
 
-/// The logical lines of a source, and what comes behind the last of them, twice. Another listing of
+/// The logical lines of a source, and what comes after the last of them, twice. Another listing of
 /// them goes on beside this one, and keeps where their terminals stand.
 pub(crate) fn logical_lines(rt: &impl Abort, alloc: Global, extent: &str, text: &str) -> String {
     let source = source_of(rt, alloc, text);

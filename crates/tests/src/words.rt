@@ -5,7 +5,7 @@ use pylex::Kind;
 use pytree::{Extent, Profile, Style};
 use std::process::Abort;
 
-/// The style of a dump: `names` or `bare`, for with all names or without. Behind that stands `3.12`
+/// The style of a dump: `names` or `bare`, for with all names or without. After that stands `3.12`
 /// for that Python instead of 3.11, or how many blanks a level has on lines.
 pub(crate) fn style_of(words: &str) -> Style {
     let (names, rest) = words.split_once(' ').unwrap_or((words, ""));

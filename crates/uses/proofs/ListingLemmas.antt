@@ -25,19 +25,19 @@ names_left s k = count_by is_name (entries_of (rest s k))
 counted : (e : Entry) (es : List Entry) → count_by is_name (e ∷ es) ≡ cond (is_name e) 1 0 + count_by is_name es
 counted e es = grind (arith, common_steps)
 
-left_behind : (s : Source) (k : ℕ) (e : Entry) → slice_get (listing s) k ≡ Some (steps.Entry e)
+left_after : (s : Source) (k : ℕ) (e : Entry) → slice_get (listing s) k ≡ Some (steps.Entry e)
     → names_left s k ≡ cond (is_name e) 1 0 + names_left s (k + 1)
-left_behind s k e h = ap (λ ss. count_by is_name (entries_of ss)) (next_is s k (steps.Entry e) h) ∙ counted e (entries_of (rest s (k + 1)))
+left_after s k e h = ap (λ ss. count_by is_name (entries_of ss)) (next_is s k (steps.Entry e) h) ∙ counted e (entries_of (rest s (k + 1)))
 
--- one less behind a name
-pub behind_name : (s : Source) (k : ℕ) (e : Entry) → slice_get (listing s) k ≡ Some (steps.Entry e) → is_name e ≡ true
+-- one less after a name
+pub following_name : (s : Source) (k : ℕ) (e : Entry) → slice_get (listing s) k ≡ Some (steps.Entry e) → is_name e ≡ true
     → names_left s k ≡ 1 + names_left s (k + 1)
-behind_name s k e h is = left_behind s k e h ∙ ap (λ (b : Bool). cond b 1 0 + names_left s (k + 1)) is
+following_name s k e h is = left_after s k e h ∙ ap (λ (b : Bool). cond b 1 0 + names_left s (k + 1)) is
 
--- as many behind another entry
-pub behind_other : (s : Source) (k : ℕ) (e : Entry) → slice_get (listing s) k ≡ Some (steps.Entry e) → is_name e ≡ false
+-- as many after another entry
+pub after_other : (s : Source) (k : ℕ) (e : Entry) → slice_get (listing s) k ≡ Some (steps.Entry e) → is_name e ≡ false
     → names_left s k ≡ names_left s (k + 1)
-behind_other s k e h is = left_behind s k e h ∙ ap (λ (b : Bool). cond b 1 0 + names_left s (k + 1)) is ∙ zero-add (names_left s (k + 1))
+after_other s k e h is = left_after s k e h ∙ ap (λ (b : Bool). cond b 1 0 + names_left s (k + 1)) is ∙ zero-add (names_left s (k + 1))
 
 -- a step that is no entry
 pub no_entry : (step : Step) → ((e : Entry) → step ≡ steps.Entry e → ⊥) → IsNoEntry step

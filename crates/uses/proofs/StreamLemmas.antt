@@ -34,9 +34,9 @@ follows_none reach.End = (refl, refl)
 follows_none reach.Broken = (refl, refl)
 follows_none reach.Passed = (refl, refl)
 
--- the first comment behind some entries
-abbrev pub first_behind : Parts → ℕ → Option (List ℕ)
-first_behind p k = option_map (text_of p) (find is_comment (entries_of (rest (in_characters p) k)))
+-- the first comment after some entries
+abbrev pub first_after : Parts → ℕ → Option (List ℕ)
+first_after p k = option_map (text_of p) (find is_comment (entries_of (rest (in_characters p) k)))
 
 -- a comment is told by its type
 pub comment_is : (e : Entry) → e.kind ≡ kinds.Comment → is_comment e ≡ true
@@ -54,7 +54,7 @@ pub record Searches (seen_old seen_new : Seen) (v : Streamed) : Type 0 where
   pub taken : List ℕ
   pub reads : ReadsBytes seen_old seen_new reach.Reading v.lines.reach 0 v.lines.count taken
   pub stands : (more : List ℕ) (broken : Bool) → Continues v.lines more broken → (p : Parts) × (stream_of broken (taken ++ more) ≡ Ok p) ×
-      StreamsIn v p v.shown.given more broken × (first_comment_of p ≡ first_behind p v.shown.given)
+      StreamsIn v p v.shown.given more broken × (first_comment_of p ≡ first_after p v.shown.given)
 
 given_is : (v : Streamed) (p : Parts) (k : ℕ) (more : List ℕ) (broken : Bool) → StreamsIn v p k more broken
     → StreamsIn v p v.shown.given more broken
@@ -66,7 +66,7 @@ begun {v = v} b = record {
   taken = b.begins.taken;
   reads = b.begins.reads;
   stands = λ more broken f. let s = b.begins.stands more broken f in
-      (s.0, s.1, given_is v s.0 0 more broken s.2, ap (λ (n : ℕ). first_behind s.0 n) (sym s.2.stands.count));
+      (s.0, s.1, given_is v s.0 0 more broken s.2, ap (λ (n : ℕ). first_after s.0 n) (sym s.2.stands.count));
 }
 
 -- A step was taken.
@@ -78,9 +78,9 @@ module _ {seen_old seen_mid seen_new : Seen} {old new : Streamed} {step : Step} 
   reads : ReadsBytes seen_old seen_new reach.Reading new.lines.reach 0 new.lines.count taken
   reads = ReadsBytes-on seen_old seen_mid seen_new 0 _ _ reach.Reading old.lines.reach new.lines.reach o.taken s.taken o.reads s.reads
 
-  -- the step is the next one in the source, and the lister stands behind it
+  -- the step is the next one in the source, and the lister stands after it
   stepped : (more : List ℕ) (broken : Bool) → Continues new.lines more broken
-      → (p : Parts) × (stream_of broken (taken ++ more) ≡ Ok p) × (first_comment_of p ≡ first_behind p old.shown.given) ×
+      → (p : Parts) × (stream_of broken (taken ++ more) ≡ Ok p) × (first_comment_of p ≡ first_after p old.shown.given) ×
       (slice_get (listing (in_characters p)) old.shown.given ≡ Some step) × StreamsIn new p
       (old.shown.given + entries_in step) more broken
   stepped more broken f =
@@ -112,12 +112,12 @@ module _ {seen_old seen_mid seen_new : Seen} {old new : Streamed} {step : Step} 
     reads = reads;
     stands = λ more broken f.
         let t = stepped more broken f in
-        let first : first_behind t.0 old.shown.given ≡ first_behind t.0 (old.shown.given + 1) = rw (first_of t.0 e t.3 is, other) refl in (
+        let first : first_after t.0 old.shown.given ≡ first_after t.0 (old.shown.given + 1) = rw (first_of t.0 e t.3 is, other) refl in (
           t.0,
           t.1,
           given_is new t.0 (old.shown.given + entries_in step) more broken t.4,
           t.2 ∙ first
-              ∙ ap (λ (n : ℕ). first_behind t.0 n) (sym (one_more e is)),
+              ∙ ap (λ (n : ℕ). first_after t.0 n) (sym (one_more e is)),
         );
   }
 
@@ -132,16 +132,16 @@ module _ {seen_old seen_mid seen_new : Seen} {old new : Streamed} {step : Step} 
     reads = reads;
     is = λ more broken f.
         let t = stepped more broken f in
-        let first : first_behind t.0 old.shown.given ≡ Some (text_of t.0 e) = rw (first_of t.0 e t.3 is, comment) refl in
+        let first : first_after t.0 old.shown.given ≡ Some (text_of t.0 e) = rw (first_of t.0 e t.3 is, comment) refl in
         (t.0, t.1, t.2 ∙ first ∙ ap (λ (bytes : List ℕ). Some bytes) (sym (shown t.0 (old.shown.given + entries_in step) more broken t.4)));
   }
 
-  none_behind : (p : Parts) (met : Step) → slice_get (listing (in_characters p)) old.shown.given ≡ Some met
-      → ((e : Entry) → met ≡ steps.Entry e → ⊥) → first_behind p old.shown.given ≡ None
-  none_behind p (steps.Entry e) at ends = absurd (ends e refl)
-  none_behind p steps.End at ends = ap (λ (es : List Entry). option_map (text_of p) (find is_comment es))
+  none_after : (p : Parts) (met : Step) → slice_get (listing (in_characters p)) old.shown.given ≡ Some met
+      → ((e : Entry) → met ≡ steps.Entry e → ⊥) → first_after p old.shown.given ≡ None
+  none_after p (steps.Entry e) at ends = absurd (ends e refl)
+  none_after p steps.End at ends = ap (λ (es : List Entry). option_map (text_of p) (find is_comment es))
       (end_last (in_characters p) old.shown.given at).0
-  none_behind p (steps.Fault f) at ends = ap (λ (es : List Entry). option_map (text_of p) (find is_comment es))
+  none_after p (steps.Fault f) at ends = ap (λ (es : List Entry). option_map (text_of p) (find is_comment es))
       (fault_last (in_characters p) old.shown.given f at).0
 
   -- to the end or the fault
@@ -151,5 +151,5 @@ module _ {seen_old seen_mid seen_new : Seen} {old new : Streamed} {step : Step} 
     taken = taken;
     lines = new.lines;
     reads = reads;
-    is = λ more broken f. let t = stepped more broken f in (t.0, t.1, t.2 ∙ none_behind t.0 step t.3 ends);
+    is = λ more broken f. let t = stepped more broken f in (t.0, t.1, t.2 ∙ none_after t.0 step t.3 ends);
   }

@@ -1,4 +1,4 @@
--- Why a listing can't go on behind a text.
+-- Why a listing can't go on after a text.
 use Rattle.std.specs.Prelude.{◌≡◌, ℕ, List}
 use Rattle.pylex.specs.declared.cursor.CursorFault.{CursorFault}
 use Rattle.pylex.specs.declared.cursor.CursorFault.TheVariants.{AnotherSource, Text, Memory}

@@ -15,7 +15,7 @@ use Rattle.pyast_fault.specs.declared.fault.Fault.{Fault}
 abbrev pub TookAll : Seen → Seen → Buffered → List ℕ → Type 0
 TookAll seen_old seen_new lines all = ReadsBytes seen_old seen_new reach.Reading lines.reach 0 lines.count all
 
--- a lister that has begun, behind a cursor or at the start: what was taken, and that it stands there in each source that this can be the
+-- a lister that has begun, after a cursor or at the start: what was taken, and that it stands there in each source that this can be the
 -- front of
 pub record Starts (seen_old seen_new : Seen) (resume : Option CursorParts) (v : Streamed) : Type 0 where
   pub all : List ℕ

@@ -48,7 +48,7 @@ MissesDump found faults.BadArguments = (asked : Dump) → IsDump found asked →
 MissesDump found faults.Memory = ⊤
 MissesDump found fault = ⊥
 
--- why a subcommand's name and what was found behind it give no command
+-- why a subcommand's name and what was found after it give no command
 abbrev pub MissesCommand : Option (List ℕ × List Row) → UsageFault → Type 0
 MissesCommand sub faults.BadArguments = ((command : Command) → IsCommand sub command → ⊥) × ((found : List Row)
     → sub ≡ Some (codes "tokens", found) → LacksCursor found → ⊥)

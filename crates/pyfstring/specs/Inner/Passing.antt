@@ -10,9 +10,9 @@ use Rattle.pyfstring.specs.Expressions.{Inside, expression, scan}
 abbrev pub eaten : ℕ → List ℕ → List ℕ
 eaten c cs = if begins_with c cs then drop 1 cs else cs
 
--- what is left behind a brace, if one is first
-abbrev pub behind_brace : List ℕ → List ℕ
-behind_brace cs = if begins is_brace cs then drop 1 cs else cs
+-- what is left after a brace, if one is first
+abbrev pub after_brace : List ℕ → List ℕ
+after_brace cs = if begins is_brace cs then drop 1 cs else cs
 
 -- nothing is left
 abbrev pub is_nothing : List ℕ → Bool
@@ -24,7 +24,7 @@ abbrev pub IfMalformed : CutError → Type 0 → Type 0
 IfMalformed Malformed P = P
 IfMalformed Memory P = Unit {0}
 
--- a scan that begins inside a literal, or before it, goes on in the expression behind the literal, whatever brackets are open
+-- a scan that begins inside a literal, or before it, goes on in the expression after the literal, whatever brackets are open
 pub record GoesOn (i : Inside) (old new : List ℕ) : Type 0 where
   pub same : (bs : List Bracket) → scan i bs 0 old ≡ scan expression bs 0 new
 

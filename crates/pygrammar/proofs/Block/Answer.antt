@@ -15,13 +15,13 @@ use Rattle.pygrammar.specs.Lines.{Line, line, Form}
 use Rattle.pygrammar.specs.FormHeights.{form_height}
 use Rattle.pygrammar.specs.Blocks.{Block}
 use Rattle.pygrammar.specs.Refusals.{Code, Reason, HasForm, Formed, formed_end, formed_line, Unread, too_high, no_match, no_form, too_long}
-use Rattle.pygrammar.specs.Refusals.{FirstUnread, unread, unread_behind, Accepted, Refused, by_tokens, by_line, by_block, by_height}
+use Rattle.pygrammar.specs.Refusals.{FirstUnread, unread, unread_after, Accepted, Refused, by_tokens, by_line, by_block, by_height}
 use Rattle.pygrammar.proofs.Line.Law.{one_form}
 use Rattle.pygrammar.proofs.Line.Stays.{form_stays}
 use Rattle.pygrammar.proofs.Block.Leads.{one_tree}
 use Rattle.pygrammar.proofs.Block.Law.{tree_faultless, no_first}
 
--- the lines behind one of the same form
+-- the lines after one of the same form
 formed_as : {profile : Profile} {earlier : List Line} {l : ℕ} {f g : Form} {xs : List Tokens.Line} {ys : List Line} → f ≡ g
     → Formed profile (line l f ∷ earlier) xs ys → Formed profile (line l g ∷ earlier) xs ys
 formed_as {profile} {earlier} {l} {xs = xs} {ys = ys} e p = let P : Form → Type 0 =
@@ -61,7 +61,7 @@ pub unread_none : {profile : Profile} {earlier : List Line} {xs : List Tokens.Li
     → Formed profile earlier xs ys → FirstUnread profile earlier xs n c → ⊥
 unread_none formed_end h = elim h [ ]
 unread_none (formed_line p q) (unread h) = unread_formed p h
-unread_none (formed_line p q) (unread_behind r h) = unread_none q (unread_as (one_form r.is p.is) h)
+unread_none (formed_line p q) (unread_after r h) = unread_none q (unread_as (one_form r.is p.is) h)
 
 pub never_both : {profile : Profile} {s : Source} {m : Module} {r : Reason} → Accepted profile s m → Refused profile s r → ⊥
 never_both p (by_tokens e) = let a = p.clear in cc

@@ -1,12 +1,12 @@
 -- What stands round a line of a level: the lines of deeper blocks before it change nothing of it.
 --
--- Carries: statement_from, around_behind, around_past, around_inside and 6
+-- Carries: statement_from, around_after, around_past, around_inside and 6
 -- more, for Heights. On: Steps.
 use Rattle.std.proofs.Common.{◌≡◌, ℕ, suc, ◌+◌, ◌<◌, ◌≤◌, List, [], ◌∷◌, ◌++◌, Option, Bool, true, false, cond, refl, ap, ◌∙◌, le_refl}
 use Rattle.std.proofs.Common.{eq-eqb, arith}
 use Rattle.std.specs.Prelude.{nat_lt, ◌==◌}
 use Rattle.pytree_node.specs.Trees.{Expr, Stmt, Case, Handler}
-use Rattle.pytoken.specs.Inner.Behind.{behind}
+use Rattle.pytoken.specs.Inner.Following.{following}
 use Rattle.pygrammar.specs.Lines.{Line, line, header_form, Header}
 use Rattle.pygrammar.specs.Blocks.{Block, Statement, Body, Alternative, Otherwise, Excepts, Cases, Ending, Decorators, nothing, and_then}
 use Rattle.pygrammar.specs.Blocks.{simple_line, if_statement, loop_statement, with_statement, try_finally, try_except, definition_of}
@@ -136,17 +136,17 @@ not_chained _ l (x ∷ earlier) h = refl
 
 -- ---- Lines more.
 
-pub around_behind : (l : ℕ) (earlier xs : List Line) → AreFrom l xs → around l (behind earlier xs) ≡ around l earlier
-around_behind l earlier [] p = refl
-around_behind l earlier (x ∷ xs) p = around_behind l (x ∷ earlier) xs p.1 ∙ around_past l x earlier p.0
+pub around_after : (l : ℕ) (earlier xs : List Line) → AreFrom l xs → around l (following earlier xs) ≡ around l earlier
+around_after l earlier [] p = refl
+around_after l earlier (x ∷ xs) p = around_after l (x ∷ earlier) xs p.1 ∙ around_past l x earlier p.0
 
-pub elif_behind : (l : ℕ) (earlier xs : List Line) → AreFrom (suc l) xs → elifs ElifLine l (behind earlier xs) ≡ elifs ElifLine l earlier
-elif_behind l earlier [] p = refl
-elif_behind l earlier (x ∷ xs) p = elif_behind l (x ∷ earlier) xs p.1 ∙ elif_past l x earlier p.0
+pub elif_after : (l : ℕ) (earlier xs : List Line) → AreFrom (suc l) xs → elifs ElifLine l (following earlier xs) ≡ elifs ElifLine l earlier
+elif_after l earlier [] p = refl
+elif_after l earlier (x ∷ xs) p = elif_after l (x ∷ earlier) xs p.1 ∙ elif_past l x earlier p.0
 
-pub else_behind : (l : ℕ) (earlier xs : List Line) → AreFrom (suc l) xs → elifs ElseLine l (behind earlier xs) ≡ elifs ElseLine l earlier
-else_behind l earlier [] p = refl
-else_behind l earlier (x ∷ xs) p = else_behind l (x ∷ earlier) xs p.1 ∙ else_past l x earlier p.0
+pub else_after : (l : ℕ) (earlier xs : List Line) → AreFrom (suc l) xs → elifs ElseLine l (following earlier xs) ≡ elifs ElseLine l earlier
+else_after l earlier [] p = refl
+else_after l earlier (x ∷ xs) p = else_after l (x ∷ earlier) xs p.1 ∙ else_past l x earlier p.0
 
 -- what stands round a line after a header and its block
 pub record After (l : ℕ) (h : Header) (earlier now : List Line) : Type 0 where
@@ -156,12 +156,12 @@ pub record After (l : ℕ) (h : Header) (earlier now : List Line) : Type 0 where
 
 pub after_body : {l : ℕ} {suite : Option (List Stmt)} {xs : List Line} {ss : List Stmt} (h : Header) (earlier : List Line)
     → Body l suite xs ss →
-    After l h earlier (behind (line l (header_form h suite) ∷ earlier) xs)
+    After l h earlier (following (line l (header_form h suite) ∷ earlier) xs)
 after_body {l} {suite} {xs} h earlier p =
     let x : Line = line l (header_form h suite) in
     let deeper = body_from p in
     record {
-      round = around_behind l (x ∷ earlier) xs (from_lower l xs deeper) ∙ around_past l x earlier (le_refl l);
-      elif_count = elif_behind l (x ∷ earlier) xs deeper ∙ elif_here x earlier;
-      else_count = else_behind l (x ∷ earlier) xs deeper ∙ else_here x earlier;
+      round = around_after l (x ∷ earlier) xs (from_lower l xs deeper) ∙ around_past l x earlier (le_refl l);
+      elif_count = elif_after l (x ∷ earlier) xs deeper ∙ elif_here x earlier;
+      else_count = else_after l (x ∷ earlier) xs deeper ∙ else_here x earlier;
     }

@@ -13,7 +13,7 @@ use Rattle.pytoken.specs.Tokens as Tokens
 use Rattle.pygrammar.specs.Lines.{Line, Form, header_form, Header, match_header, is_proper, are_proper}
 use Rattle.pygrammar.specs.Forms as F
 use Rattle.pygrammar.specs.Blocks.{Block}
-use Rattle.pygrammar.specs.Refusals.{Formed, formed_end, formed_line, beginning, IsDeep, FirstDeep, deep, deep_behind}
+use Rattle.pygrammar.specs.Refusals.{Formed, formed_end, formed_line, beginning, IsDeep, FirstDeep, deep, deep_after}
 use Rattle.pygrammar.proofs.Block.Heights.{high, IsFlat, AreFlat, top, deepest, block_depth}
 
 -- ---- Simple statements have none inside, and the header of a `match` has no inline suite.
@@ -97,18 +97,18 @@ find_deep earlier [] h = absurd (omega (arith, h))
 find_deep earlier (x ∷ xs) h = elim (deep_or_not (beginning x earlier)) [
   | inl d ↦ (0, deep d)
   | inr d ↦ let r = find_deep (x ∷ earlier) xs (less_later (top (beginning x earlier)) (deepest (x ∷ earlier) xs) h d.1) in
-      (suc r.0, deep_behind d.0 r.1)
+      (suc r.0, deep_after d.0 r.1)
 ]
 
 deep_found : {earlier xs : List Line} {n : ℕ} → FirstDeep earlier xs n → 500 < deepest earlier xs
 deep_found (deep {earlier = earlier} {x = x} {xs = xs} d) = less_left (top (beginning x earlier)) (deepest (x ∷ earlier) xs)
     (deep_top (beginning x earlier) d)
-deep_found (deep_behind {earlier = earlier} {x = x} {xs = xs} d p) =
+deep_found (deep_after {earlier = earlier} {x = x} {xs = xs} d p) =
     less_right (top (beginning x earlier)) (deepest (x ∷ earlier) xs) (deep_found p)
 
 pub deep_within : {earlier xs : List Line} {n : ℕ} → FirstDeep earlier xs n → n < length xs
 deep_within (deep d) = omega arith
-deep_within (deep_behind d p) = let h = deep_within p in omega arith
+deep_within (deep_after d p) = let h = deep_within p in omega arith
 
 pub deep_is_high : {forms : List Line} {m : Module} → Block 0 forms m.body → AreFlat forms
     → ((n : ℕ) × FirstDeep [] forms n) ↔ (500 < statement_height m)

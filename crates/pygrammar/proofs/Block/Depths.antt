@@ -5,7 +5,7 @@ use Rattle.std.proofs.Common.{◌≡◌, ℕ, ◌+◌, ◌<◌, ◌≤◌, List,
 use Rattle.std.proofs.Common.{length, Bool, suc, arith}
 use Rattle.std.specs.Prelude.{nat_lt, ◌==◌}
 use borrow.Author.Tests.{ltb-true, ltb-false}
-use Rattle.pytoken.specs.Inner.Behind.{behind}
+use Rattle.pytoken.specs.Inner.Following.{following}
 use Rattle.pygrammar.specs.Lines.{Line, line, Form, simple_form, decorator_form, header_form}
 use Rattle.pygrammar.specs.Blocks.{Kind, ElifLine, ElseLine, CaseLine, kind_of}
 use Rattle.pygrammar.specs.Refusals.{elifs, own, around, beginning}
@@ -17,7 +17,7 @@ abbrev pub depths : List Line → List Depth
 depths [] = []
 depths (x ∷ earlier) = counted (depths earlier) x
 
-pub count_is : (earlier xs : List Line) → count (depths earlier) xs ≡ depths (behind earlier xs)
+pub count_is : (earlier xs : List Line) → count (depths earlier) xs ≡ depths (following earlier xs)
 count_is earlier [] = refl
 count_is earlier (x ∷ xs) = count_is (x ∷ earlier) xs
 
@@ -112,8 +112,8 @@ innermost_is x earlier =
     ∙ ap (λ z. begins (around x.level earlier) z x.form) (arms_are (kind_of x.form) x.level earlier)
     ∙ begins_is x.level x.form earlier
 
-pub innermost_on : (xs : List Line) (x : Line) → innermost x (count [] xs) ≡ beginning x (behind [] xs)
-innermost_on xs x = ap (innermost x) (count_is [] xs) ∙ innermost_is x (behind [] xs)
+pub innermost_on : (xs : List Line) (x : Line) → innermost x (count [] xs) ≡ beginning x (following [] xs)
+innermost_on xs x = ap (innermost x) (count_is [] xs) ∙ innermost_is x (following [] xs)
 
 -- ---- How large the numbers are.
 

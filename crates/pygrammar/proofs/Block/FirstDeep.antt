@@ -4,9 +4,9 @@
 -- Carries: deep_is, not_deep, first_deep_found, no_deep_found and 4 more, for Blocks. On: Depths.
 use Rattle.std.proofs.Common.{◌≡◌, ◌⊎◌, inl, inr, ℕ, suc, List, [], ◌∷◌, ◌++◌, length, Option, Some, None, true, false}
 use Rattle.std.proofs.Common.{refl, ap, leb-true, leb-false, arith}
-use Rattle.pytoken.specs.Inner.Behind.{behind}
+use Rattle.pytoken.specs.Inner.Following.{following}
 use Rattle.pygrammar.specs.Lines.{Line}
-use Rattle.pygrammar.specs.Refusals.{beginning, IsDeep, FirstDeep, deep, deep_behind}
+use Rattle.pygrammar.specs.Refusals.{beginning, IsDeep, FirstDeep, deep, deep_after}
 use Rattle.pygrammar.specs.Depths.{is_deep}
 
 abbrev number : Option ℕ → ℕ
@@ -27,26 +27,26 @@ not_deep (Some n) h k = let l = leb-false 500 n h in omega (arith, l, k)
 
 pub one_deep : {earlier xs : List Line} {a b : ℕ} → FirstDeep earlier xs a → FirstDeep earlier xs b → a ≡ b
 one_deep (deep d) (deep e) = refl
-one_deep (deep d) (deep_behind c q) = absurd (c d)
-one_deep (deep_behind c p) (deep e) = absurd (c e)
-one_deep (deep_behind c p) (deep_behind e q) = ap suc (one_deep p q)
+one_deep (deep d) (deep_after c q) = absurd (c d)
+one_deep (deep_after c p) (deep e) = absurd (c e)
+one_deep (deep_after c p) (deep_after e q) = ap suc (one_deep p q)
 
 -- ---- One line more.
 
 pub deep_more : {earlier xs : List Line} {n : ℕ} → FirstDeep earlier xs n → (more : List Line) → FirstDeep earlier (xs ++ more) n
 deep_more (deep d) more = deep d
-deep_more (deep_behind c p) more = deep_behind c (deep_more p more)
+deep_more (deep_after c p) more = deep_after c (deep_more p more)
 
-pub deep_last : (earlier xs : List Line) (x : Line) → ((n : ℕ) → FirstDeep earlier xs n → ⊥) → IsDeep (beginning x (behind earlier xs))
+pub deep_last : (earlier xs : List Line) (x : Line) → ((n : ℕ) → FirstDeep earlier xs n → ⊥) → IsDeep (beginning x (following earlier xs))
     → FirstDeep earlier (xs ++ x ∷ []) (length xs)
 deep_last earlier [] x none d = deep d
 deep_last earlier (y ∷ xs) x none d =
-    deep_behind (λ e. none 0 (deep e)) (deep_last (y ∷ earlier) xs x (λ n p. none (suc n) (deep_behind (λ e. none 0 (deep e)) p)) d)
+    deep_after (λ e. none 0 (deep e)) (deep_last (y ∷ earlier) xs x (λ n p. none (suc n) (deep_after (λ e. none 0 (deep e)) p)) d)
 
 pub deep_parts : (earlier xs : List Line) (x : Line) {n : ℕ} → FirstDeep earlier (xs ++ x ∷ []) n
-    → ((m : ℕ) × FirstDeep earlier xs m) ⊎ IsDeep (beginning x (behind earlier xs))
+    → ((m : ℕ) × FirstDeep earlier xs m) ⊎ IsDeep (beginning x (following earlier xs))
 deep_parts earlier [] x (deep d) = inr d
-deep_parts earlier [] x (deep_behind c p) = elim p [ ]
+deep_parts earlier [] x (deep_after c p) = elim p [ ]
 deep_parts earlier (y ∷ xs) x (deep d) = inl (0, deep d)
-deep_parts earlier (y ∷ xs) x (deep_behind c p) =
-    elim (deep_parts (y ∷ earlier) xs x p) [ inl r ↦ inl (suc r.0, deep_behind c r.1) | inr d ↦ inr d ]
+deep_parts earlier (y ∷ xs) x (deep_after c p) =
+    elim (deep_parts (y ∷ earlier) xs x p) [ inl r ↦ inl (suc r.0, deep_after c r.1) | inr d ↦ inr d ]

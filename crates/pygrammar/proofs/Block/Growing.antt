@@ -204,9 +204,9 @@ makes_whole {l} {xs} {ys} {suite} {body} {d} {g} {h} p ss e k r b =
           subst P (sym r) (prefix_to (sym (no_gap d ss)) (completes (line l (header_form h suite) ∷ ys) ss k b));
     })
 
-pub behind : {l : ℕ} (zs : List Line) (x : Line) (ys ws : List Line) (ss : List Stmt) → Statement l (zs ++ (x ∷ (ys ++ ws))) ss
+pub following : {l : ℕ} (zs : List Line) (x : Line) (ys ws : List Line) (ss : List Stmt) → Statement l (zs ++ (x ∷ (ys ++ ws))) ss
     → Statement l ((zs ++ (x ∷ ys)) ++ ws) ss
-behind zs x ys ws ss p = lines_to (sym (append_assoc zs (x ∷ ys) ws)) p
+following zs x ys ws ss p = lines_to (sym (append_assoc zs (x ∷ ys) ws)) p
 
 -- a `try` with its block, and what follows
 tried : {l : ℕ} {zs ws : List Line} {first ss : List Stmt} → Grown l [] zs (Trial first) →
@@ -221,7 +221,7 @@ more_excepts : {l : ℕ} {xs ys : List Line} {suite : Option (List Stmt)} {body 
 more_excepts {l} {ys = ys} {suite = suite} {body = body} star m name p first hs e k b =
     goes_on p (Caught star first (hs ++ handler m name body ∷ [])) e k refl
     (λ front zs n us more vs orelse ws final q o f.
-    behind zs (line l (header_form (except_header star m name) suite)) ys (us ++ (vs ++ ws))
+    following zs (line l (header_form (except_header star m name) suite)) ys (us ++ (vs ++ ws))
     (try_of star first ((hs ++ handler m name body ∷ []) ++ more) orelse final ∷ [])
     (tree_to (ap (λ z. try_of star first z orelse final ∷ []) (sym (append_assoc hs (handler m name body ∷ []) more)))
     (lines_to (ap (λ z. zs ++ (line l (header_form (except_header star m name) suite) ∷ z)) (append_assoc ys us (vs ++ ws)))
@@ -264,7 +264,7 @@ grows_by {ys = ys} {suite = suite} {body = body} g try_header p i e k b = opens_
 grows_by {l} {ys = ys} {suite = suite} {body = body} (Choice arms) (elif_header test) p i e k b =
     goes_on p (Choice (arms ++ arm test body ∷ [])) e k refl
     (λ front zs n ws orelse q. tree_to (sym (choice-append arms (arm test body) orelse))
-    (behind zs (line l (header_form (elif_header test) suite)) ys ws (choice arms (If test (stmts body) (stmts orelse) ∷ []))
+    (following zs (line l (header_form (elif_header test) suite)) ys ws (choice arms (If test (stmts body) (stmts orelse) ∷ []))
     (n (line l (header_form (elif_header test) suite) ∷ (ys ++ ws)) (If test (stmts body) (stmts orelse) ∷ []) (an_elif b q))))
 grows_by {l} {ys = ys} {suite = suite} {body = body} (Choice arms) else_header p i e k b =
     makes_whole p (choice arms body) e k refl (λ front zs n. n (line l (header_form else_header suite) ∷ ys) body (an_else (else_clause b)))
@@ -272,13 +272,13 @@ grows_by {l} {ys = ys} {suite = suite} {body = body} (Loop head first) else_head
     makes_whole p (loop head first body ∷ []) e k refl (λ front zs n. n (line l (header_form else_header suite) ∷ ys) body (else_clause b))
 grows_by {l} {ys = ys} {suite = suite} {body = body} (Caught star first hs) else_header p i e k b =
     goes_on p (Settled star first hs body) e k refl
-    (λ front zs n ws final q. behind zs (line l (header_form else_header suite)) ys ws (try_of star first hs body final ∷ [])
+    (λ front zs n ws final q. following zs (line l (header_form else_header suite)) ys ws (try_of star first hs body final ∷ [])
     (tree_to (ap (λ z. try_of star first z body final ∷ []) (append-nil hs))
     (n [] [] (line l (header_form else_header suite) ∷ ys) body ws final no_except (else_clause b) q)))
 grows_by {l} {ys = ys} {suite = suite} {body = body} (Trial first) (except_header star m name) p i e k b =
     goes_on p (Caught star first (handler m name body ∷ [])) e k refl
     (λ front zs n us more vs orelse ws final q o f.
-    behind zs (line l (header_form (except_header star m name) suite)) ys (us ++ (vs ++ ws))
+    following zs (line l (header_form (except_header star m name) suite)) ys (us ++ (vs ++ ws))
     (try_of star first (handler m name body ∷ more) orelse final ∷ [])
     (tried n (λ suite2 ys2 b2. lines_to
     (ap (λ z. line l (header_form try_header suite2) ∷ (ys2 ++ (line l (header_form (except_header star m name) suite) ∷ z)))

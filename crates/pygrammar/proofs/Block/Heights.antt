@@ -6,7 +6,7 @@ use Rattle.std.proofs.Common.{◌≡◌, ℕ, suc, ◌+◌, ◌≤◌, max, List
 use Rattle.std.proofs.Common.{◌∙◌, subst, arith}
 use Rattle.pytree_node.specs.Trees.{Expr, Pattern, Stmt, Case, Handler, stmts, cases, handlers}
 use Rattle.pytree_height.specs.Heights.{stmt_height, stmt_heights, case_heights, handler_heights}
-use Rattle.pytoken.specs.Inner.Behind.{behind}
+use Rattle.pytoken.specs.Inner.Following.{following}
 use Rattle.pygrammar.specs.Lines.{Line, line, Form, simple_form, decorator_form, header_form, Header, if_header, elif_header, else_header}
 use Rattle.pygrammar.specs.Lines.{loop_header, with_header, try_header, except_header, finally_header, def_header, match_header}
 use Rattle.pygrammar.specs.Lines.{case_header, LoopHead, while_head, for_head, DefHead, function_head, class_head, loop, with_of}
@@ -17,7 +17,7 @@ use Rattle.pygrammar.specs.Blocks.{match_statement, inline, indented, an_else, a
 use Rattle.pygrammar.specs.Blocks.{no_case, case_clause, no_finally, finally_clause, no_decorator, decorator, Kind, ElifLine, ElseLine}
 use Rattle.pygrammar.specs.Blocks.{TryLine, ExceptLine, CaseLine, header_kind}
 use Rattle.pygrammar.specs.Refusals.{elifs, own, around, is_clause, beginning}
-use Rattle.pygrammar.proofs.Block.Around.{statement_from, around_behind, around_past, around_inside, is_chained, not_chained, after_body}
+use Rattle.pygrammar.proofs.Block.Around.{statement_from, around_after, around_past, around_inside, is_chained, not_chained, after_body}
 use Rattle.pygrammar.proofs.Block.Around.{excepts_from, otherwise_from, decorators_from}
 
 -- ---- Flat lines: simple statements alone, and at least one of them.
@@ -56,11 +56,11 @@ max_none a = omega arith
 max_more : (t a b c : ℕ) → a ≡ max b c → max t a ≡ max (max t b) c
 max_more t a b c h = omega arith
 
-behind-append : (earlier xs ys : List Line) → behind earlier (xs ++ ys) ≡ behind (behind earlier xs) ys
-behind-append earlier [] ys = refl
-behind-append earlier (x ∷ xs) ys = behind-append (x ∷ earlier) xs ys
+following-append : (earlier xs ys : List Line) → following earlier (xs ++ ys) ≡ following (following earlier xs) ys
+following-append earlier [] ys = refl
+following-append earlier (x ∷ xs) ys = following-append (x ∷ earlier) xs ys
 
-deepest-append : (earlier xs ys : List Line) → deepest earlier (xs ++ ys) ≡ max (deepest earlier xs) (deepest (behind earlier xs) ys)
+deepest-append : (earlier xs ys : List Line) → deepest earlier (xs ++ ys) ≡ max (deepest earlier xs) (deepest (following earlier xs) ys)
 deepest-append earlier [] ys = max_none (deepest earlier ys)
 deepest-append earlier (x ∷ xs) ys = max_more (top (beginning x earlier)) _ _ _ (deepest-append (x ∷ earlier) xs ys)
 
@@ -76,10 +76,10 @@ pub record Reaches (m n : ℕ) (earlier xs : List Line) : Type 0 where
 joined : (m n k a b c : ℕ) → max m a ≡ m + n → max m b ≡ m + k → c ≡ max a b → max m c ≡ m + max n k
 joined m n k a b c p q h = omega arith
 
-reaches-append : {m n k : ℕ} {earlier xs ys : List Line} → Reaches m n earlier xs → Reaches m k (behind earlier xs) ys
+reaches-append : {m n k : ℕ} {earlier xs ys : List Line} → Reaches m n earlier xs → Reaches m k (following earlier xs) ys
     → Reaches m (max n k) earlier (xs ++ ys)
 reaches-append {m} {n} {k} {earlier} {xs} {ys} p q =
-    record { is = joined m n k (deepest earlier xs) (deepest (behind earlier xs) ys) _ p.is q.is (deepest-append earlier xs ys) }
+    record { is = joined m n k (deepest earlier xs) (deepest (following earlier xs) ys) _ p.is q.is (deepest-append earlier xs ys) }
 
 reaches_none : (m : ℕ) (earlier : List Line) → Reaches m 0 earlier []
 reaches_none m earlier = record { is = omega arith }
@@ -202,13 +202,13 @@ decorated m n a b c h p e = omega arith
 -- ---- By the tree.
 
 excepts_after : {l : ℕ} {star : Bool} {xs : List Line} {hs : List Handler} → Excepts l star xs hs → (earlier : List Line)
-    → elifs ElseLine l earlier ≡ 0 → elifs ElseLine l (behind earlier xs) ≡ 0
+    → elifs ElseLine l earlier ≡ 0 → elifs ElseLine l (following earlier xs) ≡ 0
 excepts_after no_except earlier h = h
 excepts_after {l} (except_clause {star = star} {matched = matched} {name = name} {suite = suite} {xs = xs} {ys = ys} p q) earlier h =
     let k : Header = except_header star matched name in
     let x : Line = line l (header_form k suite) in
-    ap (elifs ElseLine l) (behind-append (x ∷ earlier) xs ys)
-    ∙ excepts_after q (behind (x ∷ earlier) xs) ((after_body k earlier p).else_count ∙ not_chained (ExceptLine star) l earlier refl)
+    ap (elifs ElseLine l) (following-append (x ∷ earlier) xs ys)
+    ∙ excepts_after q (following (x ∷ earlier) xs) ((after_body k earlier p).else_count ∙ not_chained (ExceptLine star) l earlier refl)
 
 mutual
   pub block_depth : {l : ℕ} {xs : List Line} {ss : List Stmt} → Block l xs ss → (earlier : List Line) (m : ℕ) → around l earlier ≡ m
@@ -218,7 +218,7 @@ mutual
       let g = flat_parts xs ys f in
       reaches_to (sym (high-append ss more))
       (reaches-append (statement_depth p earlier m e g.0)
-      (block_depth q (behind earlier xs) m (around_behind l earlier xs (statement_from p) ∙ e) g.1))
+      (block_depth q (following earlier xs) m (around_after l earlier xs (statement_from p) ∙ e) g.1))
 
   pub statement_depth : {l : ℕ} {xs : List Line} {ss : List Stmt} → Statement l xs ss → (earlier : List Line) (m : ℕ) → around l earlier ≡ m
       → AreFlat xs → Reaches m (high ss) earlier xs
@@ -230,7 +230,7 @@ mutual
       reaches_in e
       (compound h (max (high body) (high orelse)) (around l earlier) earlier refl (inside_is l h earlier refl refl)
       (reaches-append (body_depth h earlier p f.0 g.0)
-      (alternative_depth q (behind (line l (header_form h suite) ∷ earlier) xs) (inside l h earlier) (omega (arith, a.round, a.else_count))
+      (alternative_depth q (following (line l (header_form h suite) ∷ earlier) xs) (inside l h earlier) (omega (arith, a.round, a.else_count))
       (omega (arith, a.elif_count, a.else_count)) g.1)))
   statement_depth {l} (loop_statement {head = head} {suite = suite} {xs = xs} {ys = ys} {body = body} {orelse = orelse} p q) earlier m e f =
       let h : Header = loop_header head in
@@ -240,7 +240,7 @@ mutual
       (reaches_to (loop_height head body orelse)
       (compound h (max (high body) (high orelse)) (around l earlier) earlier refl (inside_is l h earlier refl refl)
       (reaches-append (body_depth h earlier p f.0 g.0)
-      (otherwise_depth q (behind (line l (header_form h suite) ∷ earlier) xs) (inside l h earlier)
+      (otherwise_depth q (following (line l (header_form h suite) ∷ earlier) xs) (inside l h earlier)
       (omega (arith, a.round, a.else_count)) g.1))))
   statement_depth {l} (with_statement {is_async = is_async} {items = items} {body = body} p) earlier m e f =
       let h : Header = with_header is_async items in
@@ -250,7 +250,7 @@ mutual
   statement_depth {l} (try_finally {suite = suite} {last = last} {xs = xs} {ys = ys} {body = body} {final = final} p q) earlier m e f =
       let g = flat_parts xs (line l (header_form finally_header last) ∷ ys) f.1 in
       let a = after_body try_header earlier p in
-      let now : List Line = behind (line l (header_form try_header suite) ∷ earlier) xs in
+      let now : List Line = following (line l (header_form try_header suite) ∷ earlier) xs in
       let i = inside_is l finally_header now refl refl in
       let j = inside_is l try_header earlier refl refl in
       reaches_in e
@@ -264,26 +264,26 @@ mutual
       let g1 = flat_parts ys (zs ++ ws) g.1 in
       let g2 = flat_parts zs ws g1.1 in
       let a = after_body try_header earlier p in
-      let now : List Line = behind (line l (header_form try_header suite) ∷ earlier) xs in
+      let now : List Line = following (line l (header_form try_header suite) ∷ earlier) xs in
       let j = inside_is l try_header earlier refl refl in
       let none : elifs ElseLine l now ≡ 0 = a.else_count ∙ not_chained TryLine l earlier refl in
-      let caught = around_behind l now ys (excepts_from q) in
+      let caught = around_after l now ys (excepts_from q) in
       let late = excepts_after q now none in
-      let settled = around_behind l (behind now ys) zs (otherwise_from o) in
+      let settled = around_after l (following now ys) zs (otherwise_from o) in
       reaches_in e
       (reaches_to (try_height star body (first ∷ hs) orelse final)
       (compound try_header _ (around l earlier) earlier refl j
       (reaches-append (body_depth try_header earlier p f.0 g.0)
       (reaches-append (excepts_depth q now (inside l try_header earlier) (ap suc a.round ∙ sym j) g1.0)
       (reaches-append
-      (otherwise_depth o (behind now ys) (inside l try_header earlier) (omega (arith, caught, late, a.round, j)) g2.0)
-      (ending_depth z (behind (behind now ys) zs) (inside l try_header earlier) (ap suc (settled ∙ caught ∙ a.round) ∙ sym j) g2.1))))))
+      (otherwise_depth o (following now ys) (inside l try_header earlier) (omega (arith, caught, late, a.round, j)) g2.0)
+      (ending_depth z (following (following now ys) zs) (inside l try_header earlier) (ap suc (settled ∙ caught ∙ a.round) ∙ sym j) g2.1))))))
   statement_depth {l} (definition_of head {suite = suite} {ds = ds} {xs = xs} {es = es} {body = body} d p) earlier m e f =
       let h : Header = def_header head in
       let x : Line = line l (header_form h suite) in
       let g = flat_parts ds (x ∷ xs) f in
-      let now : List Line = behind earlier ds in
-      let same : around l now ≡ m = around_behind l earlier ds (decorators_from d) ∙ e in
+      let now : List Line = following earlier ds in
+      let same : around l now ≡ m = around_after l earlier ds (decorators_from d) ∙ e in
       reaches_to (definition_height es head body)
       (record {
         is = decorated m (high body) (deepest earlier ds) (deepest now (x ∷ xs)) _ (decorators_depth d earlier m e)
@@ -317,7 +317,7 @@ mutual
       let a = after_body h earlier p in
       compound h (max (high body) (high orelse)) r earlier refl (omega (arith, e, k))
       (reaches-append (body_depth h earlier p f.0 g.0)
-      (alternative_depth q (behind (line l (header_form h suite) ∷ earlier) xs) (inside l h earlier) (omega (arith, a.round, a.else_count))
+      (alternative_depth q (following (line l (header_form h suite) ∷ earlier) xs) (inside l h earlier) (omega (arith, a.round, a.else_count))
       (omega (arith, a.elif_count, a.else_count)) g.1))
 
   pub otherwise_depth : {l : ℕ} {xs : List Line} {ss : List Stmt} → Otherwise l xs ss → (earlier : List Line) (r : ℕ)
@@ -335,7 +335,7 @@ mutual
       let g = flat_parts xs ys f.1 in
       let a = after_body h earlier p in
       reaches-append (reaches_in (inside_is l h earlier refl refl ∙ e) (body_depth h earlier p f.0 g.0))
-      (excepts_depth q (behind (line l (header_form h suite) ∷ earlier) xs) r (ap suc a.round ∙ e) g.1)
+      (excepts_depth q (following (line l (header_form h suite) ∷ earlier) xs) r (ap suc a.round ∙ e) g.1)
 
   pub cases_depth : {l : ℕ} {xs : List Line} {cs : List Case} → Cases l xs cs → (earlier : List Line) (r : ℕ) → around l earlier ≡ r
       → AreFlat xs → Reaches r (case_heights (cases cs)) earlier xs
@@ -345,7 +345,7 @@ mutual
       let g = flat_parts xs ys f.1 in
       let a = after_body h earlier p in
       reaches-append (reaches_in (inside_case l pattern guard earlier ∙ e) (body_depth h earlier p f.0 g.0))
-      (cases_depth q (behind (line l (header_form h suite) ∷ earlier) xs) r (a.round ∙ e) g.1)
+      (cases_depth q (following (line l (header_form h suite) ∷ earlier) xs) r (a.round ∙ e) g.1)
 
   pub ending_depth : {l : ℕ} {xs : List Line} {ss : List Stmt} → Ending l xs ss → (earlier : List Line) (r : ℕ) → suc (around l earlier) ≡ r
       → AreFlat xs → Reaches r (high ss) earlier xs

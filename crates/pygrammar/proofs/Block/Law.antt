@@ -11,14 +11,14 @@ use Rattle.pytree_node.specs.Trees.{Expr, Stmt}
 use Rattle.pygrammar.specs.Lines.{Line, line, Form, simple_form, decorator_form, header_form, Header, are_proper, opens}
 use Rattle.pygrammar.specs.Blocks.{Block, Fault, ExpectedIndent, UnexpectedIndent, MisplacedClause, Kind, SimpleLine, DecoratorLine}
 use Rattle.pygrammar.specs.Blocks.{EndLine, header_kind, kind_of, IsClear, IsFault, IsFaultless, clear_end, clear_line, FirstFault}
-use Rattle.pygrammar.specs.Blocks.{fault_at_end, fault_at, fault_behind}
+use Rattle.pygrammar.specs.Blocks.{fault_at_end, fault_at, fault_after}
 use Rattle.pygrammar.specs.Reading.{Answer, Fine, Faulty, then, Group, Idle, Marked, closes, PartialBlock, part, meets, decorated}
 use Rattle.pygrammar.specs.Reading.{or_misplaced}
 use Rattle.pygrammar.specs.Reading.{place_header, Waiting, waiting, State, state, start, joined, first_group, settle, place, placed, step}
 use Rattle.pygrammar.specs.Reading.{run, stops, finish, read}
 use Rattle.pygrammar.proofs.Block.Leads.{read_block}
 use Rattle.pygrammar.proofs.Block.Sound.{read_gives}
-use Rattle.pygrammar.proofs.Block.Standing.{after, standing, stand, standing_above, standing_below, standing_here, place_behind}
+use Rattle.pygrammar.proofs.Block.Standing.{after, standing, stand, standing_above, standing_below, standing_here, place_following}
 use Rattle.pygrammar.proofs.Block.Standing.{place_deeper}
 use Rattle.pygrammar.proofs.Block.Nested.{is_matching, closed_unmatched, decorated_same, grows_same, nested_on, nested_deeper}
 use Rattle.pygrammar.proofs.Block.Fitting.{is_marked, is_decorator, not_marked, no_decorator_header, first_unmarked, first_stands}
@@ -29,31 +29,31 @@ use Rattle.pygrammar.proofs.Block.Settling.{unsettled_fault, deep_fault}
 
 -- ---- What is known after a line.
 
-levels_behind : (x : Line) (earlier : List Line) (below : List Waiting) → length below ≤ x.level → Levels earlier below
+levels_after : (x : Line) (earlier : List Line) (below : List Waiting) → length below ≤ x.level → Levels earlier below
     → Levels (x ∷ earlier) below
-levels_behind x earlier [] n k = tt
-levels_behind x earlier (w ∷ below) n k = (
+levels_after x earlier [] n k = tt
+levels_after x earlier (w ∷ below) n k = (
   λ body. standing_below (length below) x earlier (omega arith) ∙ k.0 body,
-  place_behind (length below) x earlier (omega arith) ∙ k.1,
-  levels_behind x earlier below (omega arith) k.2,
+  place_following (length below) x earlier (omega arith) ∙ k.1,
+  levels_after x earlier below (omega arith) k.2,
 )
 
-stands_behind : (earlier : List Line) (s t : State) (f : Form) → Reached earlier (length t.below) s t →
+stands_following : (earlier : List Line) (s t : State) (f : Form) → Reached earlier (length t.below) s t →
     standing (length t.below) (line (length t.below) f ∷ earlier) ≡ after (kind_of f) (stand t.group)
-stands_behind earlier s t f r = standing_here (line (length t.below) f) earlier ∙ ap (after (kind_of f)) r.settled.stands
+stands_following earlier s t f r = standing_here (line (length t.below) f) earlier ∙ ap (after (kind_of f)) r.settled.stands
 
-marks_behind : (earlier : List Line) (s t : State) (f : Form) (d : List Stmt) (g : Group)
+marks_after : (earlier : List Line) (s t : State) (f : Form) (d : List Stmt) (g : Group)
     → Reached earlier (length t.below) s t → opens f ≡ false →
     after (kind_of f) (stand t.group) ≡ stand g → is_decorator (kind_of f) ≡ is_marked g → is_matching g ≡ is_matching t.group →
     Marks (line (length t.below) f ∷ earlier) (state d g false t.below)
-marks_behind earlier s t f d g r o e m i = record {
-  stands = stands_behind earlier s t f r ∙ e;
-  levels = levels_behind (line (length t.below) f) earlier t.below (omega arith) r.settled.levels;
+marks_after earlier s t f d g r o e m i = record {
+  stands = stands_following earlier s t f r ∙ e;
+  levels = levels_after (line (length t.below) f) earlier t.below (omega arith) r.settled.levels;
   opened = o;
   fresh_level = λ i. cc;
   level = λ i. refl;
   marked = m;
-  place = place_behind (length t.below) (line (length t.below) f) earlier (omega arith) ∙ r.settled.place;
+  place = place_following (length t.below) (line (length t.below) f) earlier (omega arith) ∙ r.settled.place;
   nested = nested_on t.group g t.below i r.settled.nested;
 }
 
@@ -64,9 +64,9 @@ marks_deeper earlier s t h d p r e = record {
   stands = standing_above (suc (length t.below)) (line (length t.below) (header_form h None) ∷ earlier)
       (omega arith) ∙ sym (first_stands h);
   levels = (
-    λ body. stands_behind earlier s t (header_form h None) r ∙ sym (grows_stands t.group h p body e),
-    place_behind (length t.below) (line (length t.below) (header_form h None)) earlier (omega arith) ∙ r.settled.place,
-    levels_behind (line (length t.below) (header_form h None)) earlier t.below (omega arith) r.settled.levels,
+    λ body. stands_following earlier s t (header_form h None) r ∙ sym (grows_stands t.group h p body e),
+    place_following (length t.below) (line (length t.below) (header_form h None)) earlier (omega arith) ∙ r.settled.place,
+    levels_after (line (length t.below) (header_form h None)) earlier t.below (omega arith) r.settled.levels,
   );
   opened = refl;
   fresh_level = λ i. refl;
@@ -87,7 +87,7 @@ steps_simple earlier s t ss r None c = wrong_here earlier (length t.below) s t S
     (wrong_closed t.group SimpleLine c refl refl refl)
 steps_simple earlier s t ss r (Some more) c = (
   clear_here earlier (length t.below) s t SimpleLine r (fits_closed t.group more SimpleLine c refl refl),
-  marks_behind earlier s t (simple_form ss) ((t.done ++ more) ++ ss) Idle r refl refl refl (sym (closed_unmatched t.group more c)),
+  marks_after earlier s t (simple_form ss) ((t.done ++ more) ++ ss) Idle r refl refl refl (sym (closed_unmatched t.group more c)),
 )
 
 marks_decorated : (g : Group) (x : Expr) (p : PartialBlock) → decorated g x ≡ Some p → is_marked p.group ≡ true
@@ -106,7 +106,7 @@ steps_decorator earlier s t x r None c = wrong_here earlier (length t.below) s t
 steps_decorator earlier s t x r (Some p) c =
     let m = marks_decorated t.group x p c in (
       clear_here earlier (length t.below) s t DecoratorLine r (fits_decorator t.group x p c),
-      marks_behind earlier s t (decorator_form x) (t.done ++ p.done) p.group r refl (sym (marked_stands p.group m)) (sym m)
+      marks_after earlier s t (decorator_form x) (t.done ++ p.done) p.group r refl (sym (marked_stands p.group m)) (sym m)
           (decorated_same t.group x p c),
     )
 
@@ -120,7 +120,7 @@ steps_header earlier s t h None r (Some p) c = (
 )
 steps_header earlier s t h (Some ss) r (Some p) c = (
   clear_here earlier (length t.below) s t (header_kind h) r (fits_header t.group h p c),
-  marks_behind earlier s t (header_form h (Some ss)) (joined (t.done ++ p.done) p.group h ss).done
+  marks_after earlier s t (header_form h (Some ss)) (joined (t.done ++ p.done) p.group h ss).done
       (joined (t.done ++ p.done) p.group h ss).group r refl
       (sym (grows_stands t.group h p ss c)) (no_decorator_header h ∙ sym (not_marked p.group h ss)) (grows_same t.group h p ss c),
 )
@@ -179,10 +179,10 @@ finds_end earlier s m (Fine t) h =
       | Some ss ↦ λ c. clear_end (clear_here earlier 0 s t EndLine r (fits_closed t.group ss EndLine c refl refl))
     ] refl
 
-finds_behind : (earlier : List Line) (x : Line) (xs rest : List Line) (a : Answer (List Stmt)) → IsClear earlier x.level (kind_of x.form)
+finds_after : (earlier : List Line) (x : Line) (xs rest : List Line) (a : Answer (List Stmt)) → IsClear earlier x.level (kind_of x.form)
     → Finds (x ∷ earlier) xs rest a → Finds earlier (x ∷ xs) rest a
-finds_behind earlier x xs rest (Fine ss) c h = clear_line c h
-finds_behind earlier x xs rest (Faulty e) c h = fault_behind c h
+finds_after earlier x xs rest (Fine ss) c h = clear_line c h
+finds_after earlier x xs rest (Faulty e) c h = fault_after c h
 
 finds : (earlier xs : List Line) (s : State) → Marks earlier s → Finds earlier xs (stops xs s) (then (run xs s) finish)
 finds earlier [] s m =
@@ -190,7 +190,7 @@ finds earlier [] s m =
 finds earlier (x ∷ xs) s m =
     elim (step s x) as (λ a. Steps earlier x a → Finds earlier (x ∷ xs) (elim a [ Fine t ↦ stops xs t | Faulty e ↦ x ∷ xs ])
     (then (then a (run xs)) finish)) [
-      | Fine t ↦ λ h. finds_behind earlier x xs (stops xs t) (then (run xs t) finish) h.0 (finds (x ∷ earlier) xs t h.1)
+      | Fine t ↦ λ h. finds_after earlier x xs (stops xs t) (then (run xs t) finish) h.0 (finds (x ∷ earlier) xs t h.1)
       | Faulty e ↦ λ h. fault_at h
     ] (steps earlier s x m)
 
@@ -225,14 +225,14 @@ one_fault earlier l k MisplacedClause MisplacedClause p q = refl
 pub one_first : {earlier xs a b : List Line} {e f : Fault} → FirstFault earlier xs a e → FirstFault earlier xs b f → (a ≡ b) × (e ≡ f)
 one_first {earlier} {e = e} {f = f} (fault_at_end p) (fault_at_end q) = (refl, one_fault earlier 0 EndLine e f p q)
 one_first {earlier} {e = e} {f = f} (fault_at {x = x} p) (fault_at q) = (refl, one_fault earlier x.level (kind_of x.form) e f p q)
-one_first (fault_at {f = e} p) (fault_behind c q) = absurd (c.none e p.has)
-one_first (fault_behind c p) (fault_at {f = f} q) = absurd (c.none f q.has)
-one_first (fault_behind c p) (fault_behind d q) = one_first p q
+one_first (fault_at {f = e} p) (fault_after c q) = absurd (c.none e p.has)
+one_first (fault_after c p) (fault_at {f = f} q) = absurd (c.none f q.has)
+one_first (fault_after c p) (fault_after d q) = one_first p q
 
 pub no_first : {earlier xs a : List Line} {e : Fault} → IsFaultless earlier xs → FirstFault earlier xs a e → ⊥
 no_first {e = e} (clear_end c) (fault_at_end p) = c.none e p.has
 no_first {e = e} (clear_line c k) (fault_at p) = c.none e p.has
-no_first (clear_line c k) (fault_behind d p) = no_first k p
+no_first (clear_line c k) (fault_after d p) = no_first k p
 
 -- ---- The law.
 

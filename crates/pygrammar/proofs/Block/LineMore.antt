@@ -5,12 +5,12 @@
 use Rattle.std.proofs.Common.{◌≡◌, ℕ, List, [], ◌∷◌, ◌++◌, length, true, sym, ap, ◌∙◌, subst, append-nil}
 use Rattle.pytree_node.specs.declared.profiles.Profile.{Profile}
 use Rattle.pytree_node.specs.Trees.{Stmt}
-use Rattle.pytoken.specs.Inner.Behind.{behind}
+use Rattle.pytoken.specs.Inner.Following.{following}
 use Rattle.pytoken.specs.Tokens as Tokens
 use Rattle.pygrammar.specs.Lines.{Line, line, Form, are_proper}
 use Rattle.pygrammar.specs.Blocks.{Block, Fault, FirstFault, stands_in_match}
 use Rattle.pygrammar.specs.Reading.{Answer, Fine, Faulty, then, State, start, step, run, stops, finish, read}
-use Rattle.pygrammar.specs.Refusals.{Code, HasForm, Formed, formed_end, formed_line, Unread, FirstUnread, unread, unread_behind}
+use Rattle.pygrammar.specs.Refusals.{Code, HasForm, Formed, formed_end, formed_line, Unread, FirstUnread, unread, unread_after}
 use Rattle.pygrammar.proofs.Block.Steps.{run-append}
 use Rattle.pygrammar.proofs.Block.Sound.{read_gives}
 use Rattle.pygrammar.proofs.Block.Law.{Finds, read_finds}
@@ -19,22 +19,22 @@ use Rattle.pygrammar.proofs.Block.Law.{Finds, read_finds}
 
 pub formed_on : {profile : Profile} {earlier : List Line} {xs : List Tokens.Line} {ys : List Line} {x : Tokens.Line} {f : Form}
     → Formed profile earlier xs ys →
-    HasForm profile (stands_in_match x.level (behind earlier ys)) x f → Formed profile earlier (xs ++ x ∷ []) (ys ++ line x.level f ∷ [])
+    HasForm profile (stands_in_match x.level (following earlier ys)) x f → Formed profile earlier (xs ++ x ∷ []) (ys ++ line x.level f ∷ [])
 formed_on formed_end h = formed_line h formed_end
 formed_on (formed_line k p) h = formed_line k (formed_on p h)
 
 pub unread_on : {profile : Profile} {earlier : List Line} {xs : List Tokens.Line} {ys : List Line} {x : Tokens.Line} {c : Code}
     → Formed profile earlier xs ys →
-    Unread profile (stands_in_match x.level (behind earlier ys)) x c → (more : List Tokens.Line)
+    Unread profile (stands_in_match x.level (following earlier ys)) x c → (more : List Tokens.Line)
     → FirstUnread profile earlier (xs ++ (x ∷ more)) (length xs) c
 unread_on formed_end h more = unread h
-unread_on (formed_line k p) h more = unread_behind k (unread_on p h more)
+unread_on (formed_line k p) h more = unread_after k (unread_on p h more)
 
 pub unread_more : {profile : Profile} {earlier : List Line} {xs : List Tokens.Line} {n : ℕ} {c : Code} → FirstUnread profile earlier xs n c
     → (more : List Tokens.Line) →
     FirstUnread profile earlier (xs ++ more) n c
 unread_more (unread h) more = unread h
-unread_more (unread_behind k p) more = unread_behind k (unread_more p more)
+unread_more (unread_after k p) more = unread_after k (unread_more p more)
 
 -- ---- Blocks.
 

@@ -16,7 +16,7 @@ use Rattle.pygrammar.specs.Lengths.{weight}
 use Rattle.pygrammar.specs.Lines.{Line}
 use Rattle.pygrammar.specs.Blocks.{Fault, FirstFault, stands_in_match}
 use Rattle.pygrammar.specs.Refusals.{Code, terminals, Indentation, TooDeep, Reason, in_tokens, at, StartsAt, at_line, at_end, HasNone}
-use Rattle.pygrammar.specs.Refusals.{Unread, too_high, no_match, no_form, too_long, FirstUnread, unread, unread_behind, FirstDeep, Refused}
+use Rattle.pygrammar.specs.Refusals.{Unread, too_high, no_match, no_form, too_long, FirstUnread, unread, unread_after, FirstDeep, Refused}
 use Rattle.pygrammar.specs.Refusals.{by_tokens, by_line, by_block, by_height}
 use Rattle.pygrammar.specs.SourceLaws.{IsFreeChoice, free}
 use Rattle.pygrammar.proofs.Line.Law.{one_form}
@@ -40,10 +40,10 @@ same_last xs ys a b e =
     let n : length (xs ++ (a ∷ [])) ≡ length (ys ++ (b ∷ [])) = ap length e in
     same_at xs ys a b [] [] e (omega (arith, n, length-append xs (a ∷ []), length-append ys (b ∷ [])))
 
-past_end : (n : ℕ) (xs before behind : List Tokens.Line) (x : Tokens.Line) → xs ≡ before ++ (x ∷ behind)
+past_end : (n : ℕ) (xs before following : List Tokens.Line) (x : Tokens.Line) → xs ≡ before ++ (x ∷ following)
     → length before ≡ n → length xs ≡ n → ⊥
-past_end n xs before behind x e b l =
-    let k : length xs ≡ length (before ++ (x ∷ behind)) = ap length e in omega (arith, k, b, l, length-append before (x ∷ behind))
+past_end n xs before following x e b l =
+    let k : length xs ≡ length (before ++ (x ∷ following)) = ap length e in omega (arith, k, b, l, length-append before (x ∷ following))
 
 pub one_place : {s : Source} {n : ℕ} {p q : Place} → StartsAt s n p → StartsAt s n q → p ≡ q
 one_place (at_line b1 r1 x t ts e n i) (at_line b2 r2 y u us f m j) =
@@ -85,9 +85,9 @@ pub one_unread : {profile : Profile} {earlier : List Line} {xs : List Tokens.Lin
     (a ≡ b) × ((c ≡ d) ⊎ HasLong profile xs)
 one_unread (unread {earlier = earlier} {x = x} h) (unread k) =
     (refl, elim (one_code h k) [ inl e ↦ inl e | inr l ↦ inr (x, stands_in_match x.level earlier, (0, omega arith, refl), l) ])
-one_unread (unread h) (unread_behind k q) = absurd (unread_formed k h)
-one_unread (unread_behind h p) (unread k) = absurd (unread_formed h k)
-one_unread (unread_behind {x = x} {xs = xs} h p) (unread_behind k q) =
+one_unread (unread h) (unread_after k q) = absurd (unread_formed k h)
+one_unread (unread_after h p) (unread k) = absurd (unread_formed h k)
+one_unread (unread_after {x = x} {xs = xs} h p) (unread_after k q) =
     let r = one_unread p (unread_as (one_form k.is h.is) q) in
     (ap suc r.0, elim r.1 [ inl e ↦ inl e | inr l ↦ inr (l.0, l.1, Contains-append_right (x ∷ []) xs l.0 l.2, l.3) ])
 

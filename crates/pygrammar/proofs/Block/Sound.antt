@@ -54,13 +54,13 @@ body_of : (l : ℕ) (w : Waiting) (below : List Waiting) (xs : List Line) (ss : 
 body_of l w below [] ss h b = absurd h
 body_of l w below (x ∷ xs) ss h b = indented b
 
-filled_behind : (xs : List Line) (x : Line) (ys : List Line) (f : Bool) (below : List Waiting) → IsFilled f below (xs ++ (x ∷ ys))
-filled_behind [] x ys true below = tt
-filled_behind [] x ys false [] = tt
-filled_behind [] x ys false (w ∷ below) = tt
-filled_behind (y ∷ xs) x ys true below = tt
-filled_behind (y ∷ xs) x ys false [] = tt
-filled_behind (y ∷ xs) x ys false (w ∷ below) = tt
+filled_after : (xs : List Line) (x : Line) (ys : List Line) (f : Bool) (below : List Waiting) → IsFilled f below (xs ++ (x ∷ ys))
+filled_after [] x ys true below = tt
+filled_after [] x ys false [] = tt
+filled_after [] x ys false (w ∷ below) = tt
+filled_after (y ∷ xs) x ys true below = tt
+filled_after (y ∷ xs) x ys false [] = tt
+filled_after (y ∷ xs) x ys false (w ∷ below) = tt
 
 -- the cases of a level
 cases_of : (l : ℕ) (front back here : List Line) (cs : List Case) → here ≡ front ++ back → (front ≡ []) × Cases l back cs → Cases l here cs
@@ -101,7 +101,7 @@ joins seen d g w below p h c =
           ∙ ap (λ z. earlier ++ z) (append_assoc xs (head ∷ []) h.here);
       stack = h.stack.3;
       prefix = ends_prefix seen d g w below p h k;
-      filled = filled_behind xs head h.here false below;
+      filled = filled_after xs head h.here false below;
       nested = nested_pop w d g p below k h.nested;
     }
 
@@ -153,7 +153,7 @@ stays {g = g} {below = below} x d' g' e h p = record {
   is = ap (λ z. z ++ (x ∷ [])) h.is ∙ append_assoc h.earlier h.here (x ∷ []);
   stack = h.stack;
   prefix = p;
-  filled = filled_behind h.here x [] false below;
+  filled = filled_after h.here x [] false below;
   nested = nested_on g g' below e h.nested;
 }
 
@@ -274,7 +274,7 @@ step_holds : (seen : List Line) (s : State) (x : Line) (t : State) → is_proper
     → step s x ≡ Fine t → Then seen x t
 step_holds seen s x t o h e = step_from seen s x t o h (settle x.level s) refl e
 
--- the first line, and those behind it
+-- the first line, and those after it
 proper_parts : (x : Line) (xs : List Line) → are_proper (x ∷ xs) ≡ true → (is_proper x.form ≡ true) × (are_proper xs ≡ true)
 proper_parts x xs o = and_parts (is_proper x.form) (are_proper xs) o
 

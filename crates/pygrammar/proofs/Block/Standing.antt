@@ -183,8 +183,8 @@ standing_here x earlier =
 
 -- ---- In a `match`.
 
-pub place_behind : (l : ℕ) (x : Line) (earlier : List Line) → l ≤ x.level → stands_in_match l (x ∷ earlier) ≡ stands_in_match l earlier
-place_behind l x earlier h = ap (λ b. cond b (is_match (kind_of x.form)) (stands_in_match l earlier)) (not_less x.level l h)
+pub place_following : (l : ℕ) (x : Line) (earlier : List Line) → l ≤ x.level → stands_in_match l (x ∷ earlier) ≡ stands_in_match l earlier
+place_following l x earlier h = ap (λ b. cond b (is_match (kind_of x.form)) (stands_in_match l earlier)) (not_less x.level l h)
 
 pub place_deeper : (l : ℕ) (x : Line) (earlier : List Line) → x.level < l → stands_in_match l (x ∷ earlier) ≡ is_match (kind_of x.form)
 place_deeper l x earlier h = ap (λ b. cond b (is_match (kind_of x.form)) (stands_in_match l earlier)) (is_less x.level l h)

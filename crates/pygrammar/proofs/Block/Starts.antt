@@ -30,7 +30,7 @@ use Rattle.pysource.specs.Places.{place_after}
 use Rattle.pytree_node.specs.declared.profiles.Extent.{Extent}
 use Rattle.pytoken.specs.declared.refusals.Refusal.{Refusal}
 use Rattle.pytoken.specs.declared.refusals.Refusal.TheVariants as refusals
-use Rattle.pytoken.specs.Inner.Behind.{behind}
+use Rattle.pytoken.specs.Inner.Following.{following}
 use Rattle.pytoken.specs.Tokens.{Token, token_of, supplied, is_open, tokens_of_entry, tokens_from, tokens, lines_from, lines}
 use Rattle.pytoken.specs.Tokens as Tokens
 use Rattle.pytoken.specs.Refusals.{most_brackets, refusal_of, refusal_at, refusal}
@@ -157,11 +157,11 @@ NoEnd-append (steps.Entry e ∷ a) b h k = NoEnd-append a b h k
 NoEnd-append (steps.End ∷ a) b h k = h
 NoEnd-append (steps.Fault f ∷ a) b h k = NoEnd-append a b h k
 
-stops_behind : (a b : List Step) → NoEnd a → Stops b → Stops (a ++ b)
-stops_behind [] b n h = h
-stops_behind (steps.Entry e ∷ a) b n h = goes_on (stops_behind a b n h)
-stops_behind (steps.Fault f ∷ a) b n h = fault
-stops_behind (steps.End ∷ a) b n h = absurd n
+stops_following : (a b : List Step) → NoEnd a → Stops b → Stops (a ++ b)
+stops_following [] b n h = h
+stops_following (steps.Entry e ∷ a) b n h = goes_on (stops_following a b n h)
+stops_following (steps.Fault f ∷ a) b n h = fault
+stops_following (steps.End ∷ a) b n h = absurd n
 
 cond_no_end : (b : Bool) (ss ts : List Step) → NoEnd ss → NoEnd ts → NoEnd (cond b ss ts)
 cond_no_end true ss ts h k = h
@@ -219,7 +219,7 @@ module _ (before : List Lexeme) where
   unfolding tail
   tail_stops p =
       cond_stops (not (depth before == 0) || ends_in_join before) _ _ fault
-      (stops_behind (line_end_of_last before p ++ dedents 0 (open_levels (widths before)) (text_before before) (end_place before p)) _
+      (stops_following (line_end_of_last before p ++ dedents 0 (open_levels (widths before)) (text_before before) (end_place before p)) _
       (NoEnd-append (line_end_of_last before p) _ (last_no_end p) (dedents_no_end 0 (open_levels (widths before)) (end_place before p)))
       (marked refl))
 
@@ -227,7 +227,7 @@ module _ (before : List Lexeme) where
   unfolding stop stop_fault
   stop_stops o left =
       cond_stops (not (length left == 0)) _ _
-      (stops_behind (layout before) _ layout_no_end (is_fault (place_after (text_before before))))
+      (stops_following (layout before) _ layout_no_end (is_fault (place_after (text_before before))))
       (by_fault o)
     where
       in_string : (o : Option ListingFault) (p : Place)
@@ -249,7 +249,7 @@ module _ (before : List Lexeme) where
 
 all_stop : (o : Option ListingFault) (left : List ℕ) (before xs : List Lexeme) → Stops (steps_from o left before xs)
 all_stop o left before [] = stop_stops before o left
-all_stop o left before (x ∷ xs) = stops_behind (steps_of before x) _ (steps_no_end before x) (all_stop o left (x ∷ before) xs)
+all_stop o left before (x ∷ xs) = stops_following (steps_of before x) _ (steps_no_end before x) (all_stop o left (x ∷ before) xs)
 
 marker_last : {ss : List Step} → Stops ss → fault_of (up_to_end ss) ≡ None → EndsWithMarker (entries_of (up_to_end ss))
 marker_last fault h = absurd cc
@@ -286,7 +286,7 @@ last_token x s h =
     let m = marker s (no_listing_fault x s h) in
     let e = m.1 in
     let front = tokens_from s.text [] m.0 in
-    let l = marker_tokens s.text (is_open (behind [] m.0)) e.kind e.exact e.start e.«end» e.«from» e.to m.3 in (
+    let l = marker_tokens s.text (is_open (following [] m.0)) e.kind e.exact e.start e.«end» e.«from» e.to m.3 in (
       front ++ l.0,
       l.1,
       ap (tokens_from s.text []) m.2 ∙ tokens_on s.text [] m.0 e ∙ ap (λ z. front ++ z) l.2 ∙ sym (append_assoc front l.0 (l.1 ∷ [])),

@@ -16,10 +16,10 @@ use Rattle.pytoken.specs.Tokens as Tokens
 use Rattle.pygrammar.specs.Lines.{Line, line, Form}
 use Rattle.pygrammar.specs.FormHeights.{form_height}
 use Rattle.pygrammar.specs.Forms.{FormAt}
-use Rattle.pygrammar.specs.Blocks.{stands_in_match, Block, Fault, FirstFault, fault_at_end, fault_at, fault_behind}
+use Rattle.pygrammar.specs.Blocks.{stands_in_match, Block, Fault, FirstFault, fault_at_end, fault_at, fault_after}
 use Rattle.pygrammar.specs.Refusals.{Code, Syntax, MatchStatement, Indentation, TooDeep, Reason, in_tokens, at, terminals, HasForm, HasNone}
 use Rattle.pygrammar.specs.Refusals.{is_left_out, Formed, formed_end, formed_line, Unread, too_high, no_match, no_form, FirstUnread, unread}
-use Rattle.pygrammar.specs.Refusals.{unread_behind, Accepted, Refused, by_tokens, by_line, by_block, by_height}
+use Rattle.pygrammar.specs.Refusals.{unread_after, Accepted, Refused, by_tokens, by_line, by_block, by_height}
 use Rattle.pygrammar.proofs.Line.Answered.{read_or_not}
 use Rattle.pygrammar.proofs.Block.Law.{fault_or_tree}
 use Rattle.pygrammar.proofs.Block.Deep.{formed_flat, formed_proper, deep_is_high, deep_within}
@@ -57,7 +57,7 @@ lines_or_not profile earlier [] = inl ([], formed_end, refl)
 lines_or_not profile earlier (x ∷ xs) = elim (line_or_not profile (stands_in_match x.level earlier) x) [
   | inl h ↦ elim (lines_or_not profile (line x.level h.0 ∷ earlier) xs) [
     | inl r ↦ inl (line x.level h.0 ∷ r.0, formed_line h.1 r.1, omega (arith, r.2))
-    | inr r ↦ inr (suc r.0, r.1, unread_behind h.1 r.2, omega (arith, r.3))
+    | inr r ↦ inr (suc r.0, r.1, unread_after h.1 r.2, omega (arith, r.3))
   ]
   | inr h ↦ inr (0, h.0, unread h.1, omega arith)
 ]
@@ -67,7 +67,7 @@ lines_or_not profile earlier (x ∷ xs) = elim (line_or_not profile (stands_in_m
 fault_within : {earlier xs rest : List Line} {f : Fault} → FirstFault earlier xs rest f → length rest ≤ length xs
 fault_within (fault_at_end p) = omega arith
 fault_within (fault_at p) = omega arith
-fault_within (fault_behind c p) = let h = fault_within p in omega arith
+fault_within (fault_after c p) = let h = fault_within p in omega arith
 
 abbrev IsAnswered : Profile → Source → Type 0
 IsAnswered profile s = ((m : Module) × Accepted profile s m) ⊎ ((r : Reason) × Refused profile s r)

@@ -76,7 +76,7 @@ two_kinds : FirstFault [] (short 0 try_header 1 ∷ short 0 (except_header false
 two_kinds = refused (short 0 try_header 1 ∷ short 0 (except_header false None None) 2 ∷ short 0 (except_header true (Some (v 3)) None) 4 ∷
     []) (short 0 (except_header true (Some (v 3)) None) 4 ∷ []) MisplacedClause refl refl
 
--- a `finally` behind the `else` of a `for`
+-- a `finally` after the `else` of a `for`
 finally_of_for : FirstFault [] (short 0 (loop_header (for_head false (v 1) (v 2))) 3 ∷ short 0 else_header 4 ∷ short 0 finally_header 5 ∷
     []) (short 0 finally_header 5 ∷ []) MisplacedClause
 finally_of_for = refused (short 0 (loop_header (for_head false (v 1) (v 2))) 3 ∷ short 0 else_header 4 ∷ short 0 finally_header 5 ∷ [])

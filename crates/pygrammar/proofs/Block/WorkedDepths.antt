@@ -42,10 +42,10 @@ tries = (refl, refl)
 try_alone : Agrees (short 0 try_header 1 ∷ head 0 finally_header ∷ short 1 (if_header (v 1)) 2 ∷ []) 3
 try_alone = (refl, refl)
 
--- an `else` behind an `if` with `elif`s is not that of a `try` behind it
-tries_behind : Agrees (short 0 (if_header (v 1)) 2 ∷ short 0 (elif_header (v 3)) 4 ∷ short 0 try_header 1 ∷ short 0
+-- an `else` after an `if` with `elif`s is not that of a `try` after it
+tries_after : Agrees (short 0 (if_header (v 1)) 2 ∷ short 0 (elif_header (v 3)) 4 ∷ short 0 try_header 1 ∷ short 0
     (except_header false None None) 3 ∷ short 0 else_header 4 ∷ []) 3
-tries_behind = (refl, refl)
+tries_after = (refl, refl)
 
 -- decorators begin their definition
 decorated : Agrees (line 0 (decorator_form (v 1)) ∷ line 0 (decorator_form (v 2)) ∷ head 0

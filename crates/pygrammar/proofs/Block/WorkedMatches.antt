@@ -28,12 +28,12 @@ other = case_header any None
 
 -- ---- Places. The lines before come nearest first.
 
--- directly in the `match`; also behind a case and its block
+-- directly in the `match`; also after a case and its block
 in_match : stands_in_match 1 (head 0 matches ∷ []) ≡ true
 in_match = refl
 
-behind_case : stands_in_match 1 (says 2 3 ∷ head 1 other ∷ head 0 matches ∷ []) ≡ true
-behind_case = refl
+after_case : stands_in_match 1 (says 2 3 ∷ head 1 other ∷ head 0 matches ∷ []) ≡ true
+after_case = refl
 
 -- in the block of a case, beside the `match`, in the block of an `if` there
 in_case : stands_in_match 2 (head 1 other ∷ head 0 matches ∷ []) ≡ false
@@ -74,9 +74,9 @@ else_inside = refused (head 0 matches ∷ short 1 other 2 ∷ short 1 else_heade
 statement_after_case : FirstFault [] (head 0 matches ∷ short 1 other 2 ∷ says 1 3 ∷ []) (says 1 3 ∷ []) MisplacedClause
 statement_after_case = refused (head 0 matches ∷ short 1 other 2 ∷ says 1 3 ∷ []) (says 1 3 ∷ []) MisplacedClause refl refl
 
--- an `else` behind a `match`, and a decorator in front of one
-else_behind : FirstFault [] (head 0 matches ∷ short 1 other 2 ∷ short 0 else_header 3 ∷ []) (short 0 else_header 3 ∷ []) MisplacedClause
-else_behind = refused (head 0 matches ∷ short 1 other 2 ∷ short 0 else_header 3 ∷ []) (short 0 else_header 3 ∷ []) MisplacedClause refl refl
+-- an `else` after a `match`, and a decorator in front of one
+else_after : FirstFault [] (head 0 matches ∷ short 1 other 2 ∷ short 0 else_header 3 ∷ []) (short 0 else_header 3 ∷ []) MisplacedClause
+else_after = refused (head 0 matches ∷ short 1 other 2 ∷ short 0 else_header 3 ∷ []) (short 0 else_header 3 ∷ []) MisplacedClause refl refl
 
 decorated_match : FirstFault [] (line 0 (decorator_form (v 2)) ∷ head 0 matches ∷ short 1 other 3 ∷ [])
     (head 0 matches ∷ short 1 other 3 ∷ []) MisplacedClause
@@ -99,7 +99,7 @@ case_beside = refused (head 0 matches ∷ short 1 other 2 ∷ short 0 other 3 �
 case_in_case : FirstFault [] (head 0 matches ∷ head 1 other ∷ short 2 other 3 ∷ []) (short 2 other 3 ∷ []) MisplacedClause
 case_in_case = refused (head 0 matches ∷ head 1 other ∷ short 2 other 3 ∷ []) (short 2 other 3 ∷ []) MisplacedClause refl refl
 
--- nothing deeper behind a case, and something deeper behind one with its suite
+-- nothing deeper after a case, and something deeper after one with its suite
 case_alone : FirstFault [] (head 0 matches ∷ head 1 other ∷ short 1 other 2 ∷ []) (short 1 other 2 ∷ []) ExpectedIndent
 case_alone = refused (head 0 matches ∷ head 1 other ∷ short 1 other 2 ∷ []) (short 1 other 2 ∷ []) ExpectedIndent refl refl
 
@@ -108,7 +108,7 @@ deeper_after_case = refused (head 0 matches ∷ short 1 other 2 ∷ says 2 3 ∷
 
 -- ---- Trees.
 
--- two cases, the first with a guard, and a statement behind them
+-- two cases, the first with a guard, and a statement after them
 two_cases : Block 0 (head 0 matches ∷ head 1 (case_header (value 2) (Some (v 3))) ∷ says 2 4 ∷ says 2 5 ∷ short 1 other 6 ∷ says 0 7 ∷ [])
     (Match (v 1) (cases (case_of (value 2) (Some (v 3)) (s 4 ++ s 5) ∷ case_of any None (s 6) ∷ [])) ∷ s 7)
 two_cases = read_gives _ _ refl refl

@@ -28,7 +28,7 @@ use Rattle.pygrammar.specs.Targets.{stored}
 use Rattle.pygrammar.specs.Grammar as G
 use Rattle.pygrammar.specs.Reader.{Answer, Found, and_then, on_some, on_first, Reads, chain_loop, on_comparison, compare_loop, operation}
 use Rattle.pygrammar.specs.Reader.{climb_loop, primary_loop, climb, level_step, read, target_item, read_target}
-use Rattle.pygrammar.specs.Precedence.{lead, Infix, Left, Raise, Joins, Compares, infix_rank, behind, Signed, before, at_least, infix_from}
+use Rattle.pygrammar.specs.Precedence.{lead, Infix, Left, Raise, Joins, Compares, infix_rank, following, Signed, before, at_least, infix_from}
 use Rattle.pygrammar.proofs.Completeness.LookLemmas.{grip, grip_of, lead_of, miss_op, miss_word, pass_word}
 
 -- the largest grip that may follow, at the levels with operators
@@ -121,8 +121,8 @@ deeper P n f zero h = absurd (omega (arith, h))
 deeper P n f (suc d) h = f d (omega (arith, h))
 
 -- where nothing carries on, the loops are done
-no_behind : (k : ℕ) (t : Terminal) → grip t < k → infix_from k t ≡ None
-no_behind k t h = go (behind t) _ h
+no_after : (k : ℕ) (t : Terminal) → grip t < k → infix_from k t ≡ None
+no_after k t h = go (following t) _ h
   where
     go : (o : Option Infix) (x : ℕ) → on_some o infix_rank x < k → at_least infix_rank k o ≡ None
     go None x h = refl
@@ -136,7 +136,7 @@ pub loop_end : (self : Reads) (k m : ℕ) (e : Expr) (r : List Terminal) → gri
 loop_end self k zero e r h = refl
 loop_end self k (suc m) e [] h = refl
 loop_end self k (suc m) e (t ∷ r) h = ap (λ o. on_some o (λ o. and_then (operation self e o (t ∷ r) r) (λ f r2. climb_loop self k m f r2))
-    (Found e (t ∷ r))) (no_behind k t h)
+    (Found e (t ∷ r))) (no_after k t h)
 
 pub primary_end : (self : Reads) (m : ℕ) (e : Expr) (r : List Terminal) → grip_of r ≤ 22 → primary_loop self m e r ≡ Found e r
 primary_end self zero e r h = refl
@@ -172,7 +172,7 @@ answers Primary ts e d rest g s = let c = g rest (omega (arith, s)) in c.2 ∙ p
 answers _ ts e d rest g s = g rest s
 
 -- an operator after an expression
-pub loop_step : (self : Reads) (k m : ℕ) (e f : Expr) (t : Terminal) (o : Infix) (r rest : List Terminal) → behind t ≡ Some o
+pub loop_step : (self : Reads) (k m : ℕ) (e f : Expr) (t : Terminal) (o : Infix) (r rest : List Terminal) → following t ≡ Some o
     → k ≤ infix_rank o → operation self e o (t ∷ r) r ≡ Found f rest → length rest ≤ length r → suc (length r) ≤ m
     → (m' : ℕ) × (length rest ≤ m') × (climb_loop self k m e (t ∷ r) ≡ climb_loop self k m' f rest)
 loop_step self k zero e f t o r rest b h op le lm = absurd (omega (arith, lm))
@@ -182,26 +182,26 @@ loop_step self k (suc m) e f t o r rest b h op le lm = (m, omega (arith, le, lm)
 pub weaken : (l n : Level) (ts : List Terminal) (e : Expr) (d : ℕ) → rank l ≤ rank n → lim l ≤ lim n → Climbs n ts e d → Climbs l ts e d
 weaken l n ts e d h w g k le rest s = g k (omega (arith, h, le)) rest (omega (arith, w, s))
 
-left_behind : (l : Level) (t : Terminal) (o : Operator) → left_operator l t ≡ Some o → behind t ≡ Some (Left l o)
-left_behind BitOr (Op VBar) o h = cc
-left_behind BitOr (Op _) o h = absurd (cc)
-left_behind BitXor (Op Circumflex) o h = cc
-left_behind BitXor (Op _) o h = absurd (cc)
-left_behind BitAnd (Op Amper) o h = cc
-left_behind BitAnd (Op _) o h = absurd (cc)
-left_behind Shift (Op LeftShift) o h = cc
-left_behind Shift (Op RightShift) o h = cc
-left_behind Shift (Op _) o h = absurd (cc)
-left_behind Sum (Op Plus) o h = cc
-left_behind Sum (Op Minus) o h = cc
-left_behind Sum (Op _) o h = absurd (cc)
-left_behind Term (Op Star) o h = cc
-left_behind Term (Op Slash) o h = cc
-left_behind Term (Op DoubleSlash) o h = cc
-left_behind Term (Op Percent) o h = cc
-left_behind Term (Op At) o h = cc
-left_behind Term (Op _) o h = absurd (cc)
-left_behind _ t o h = absurd (cc)
+left_after : (l : Level) (t : Terminal) (o : Operator) → left_operator l t ≡ Some o → following t ≡ Some (Left l o)
+left_after BitOr (Op VBar) o h = cc
+left_after BitOr (Op _) o h = absurd (cc)
+left_after BitXor (Op Circumflex) o h = cc
+left_after BitXor (Op _) o h = absurd (cc)
+left_after BitAnd (Op Amper) o h = cc
+left_after BitAnd (Op _) o h = absurd (cc)
+left_after Shift (Op LeftShift) o h = cc
+left_after Shift (Op RightShift) o h = cc
+left_after Shift (Op _) o h = absurd (cc)
+left_after Sum (Op Plus) o h = cc
+left_after Sum (Op Minus) o h = cc
+left_after Sum (Op _) o h = absurd (cc)
+left_after Term (Op Star) o h = cc
+left_after Term (Op Slash) o h = cc
+left_after Term (Op DoubleSlash) o h = cc
+left_after Term (Op Percent) o h = cc
+left_after Term (Op At) o h = cc
+left_after Term (Op _) o h = absurd (cc)
+left_after _ t o h = absurd (cc)
 
 -- a binary operator
 pub binary_climbs : (l n : Level) (ts us : List Terminal) (a b : Expr) (t : Terminal) (o : Operator) (d : ℕ) → below l ≡ n → lim l ≡ rank l
@@ -209,7 +209,7 @@ pub binary_climbs : (l n : Level) (ts us : List Terminal) (a b : Expr) (t : Term
     → ((rest : List Terminal) → grip_of rest ≤ rank l → read (suc d) n (us ++ rest) ≡ Found b rest)
     → Climbs l (ts ++ (t ∷ us)) (Trees.BinOp a o b) (suc d)
 binary_climbs l n ts us a b t o d e w h p q k le rest s =
-    let i = left_behind l t o h in
+    let i = left_after l t o h in
     let c = p k le (t ∷ (us ++ rest)) (rw i (omega (arith, w))) in
     let op : operation (read (suc d)) a (Left l o) (t ∷ (us ++ rest)) (us ++ rest) ≡ Found (Trees.BinOp a o b) rest =
     rw e (rw (q rest (omega (arith, s, w))) refl) in
@@ -352,9 +352,9 @@ chain_operation : (self : Reads) (o : BoolOperator) (e : Expr) (es : List Expr) 
     i ≡ Found (Trees.BoolOp o (exprs (e ∷ es))) rest
 chain_operation self o e es i rest h = rw h refl
 
-chain_behind : (o : BoolOperator) → behind (Word (chain_word o)) ≡ Some (Joins o)
-chain_behind Join.And = refl
-chain_behind Join.Or = refl
+chain_after : (o : BoolOperator) → following (Word (chain_word o)) ≡ Some (Joins o)
+chain_after Join.And = refl
+chain_after Join.Or = refl
 
 -- the level of a chain, with the next one
 pub chain_climbs : (o : BoolOperator) (l n : Level) (ts us : List Terminal) (e : Expr) (es : List Expr) (d : ℕ) → chain_level o ≡ l
@@ -367,7 +367,7 @@ chain_climbs o l n ts us e es d b0 b1 b2 b3 p q k le rest s =
     let c = p k (omega (arith, le, b2)) (Word (chain_word o) ∷ (us ++ rest)) (omega (arith, b3, w, chain_word_grip o)) in
     let op = chain_operation (read (suc d)) o e es (us ++ rest) rest (q rest (omega (arith, s, b1, w))) in
     let v = loop_step (read (suc d)) k c.0 e (Trees.BoolOp o (exprs (e ∷ es))) (Word (chain_word o)) (Joins o) (us ++ rest) rest
-    (chain_behind o) (omega (arith, le, w)) op (omega (arith, length-append us rest)) c.1 in
+    (chain_after o) (omega (arith, le, w)) op (omega (arith, length-append us rest)) c.1 in
     (v.0, v.1, ap (climb (read (suc (suc d))) (read (suc d)) k) (append_assoc ts (Word (chain_word o) ∷ us) rest) ∙ c.2 ∙ v.2)
 
 -- comparisons
@@ -376,23 +376,23 @@ ComparesReads us os es = (n : ℕ) × ((d : ℕ) → n ≤ d → (rest : List Te
     → (xs : List Comparison) (acc : List Expr) (k : List Comparison → List Expr → List Terminal → Answer Expr)
     → compare_loop (read (suc d)) m xs acc (us ++ rest) k ≡ k (xs ++ os) (acc ++ es) rest)
 
-comparison_behind : (t : Terminal) (o : Comparison) → comparison t ≡ Some o → behind t ≡ Some Compares
-comparison_behind (Op EqEqual) o h = refl
-comparison_behind (Op NotEqual) o h = refl
-comparison_behind (Op Less) o h = refl
-comparison_behind (Op LessEqual) o h = refl
-comparison_behind (Op Greater) o h = refl
-comparison_behind (Op GreaterEqual) o h = refl
-comparison_behind (Op _) o h = absurd (cc)
-comparison_behind (Word Key.In) o h = refl
-comparison_behind (Word _) o h = absurd (cc)
-comparison_behind _ o h = absurd (cc)
+comparison_after : (t : Terminal) (o : Comparison) → comparison t ≡ Some o → following t ≡ Some Compares
+comparison_after (Op EqEqual) o h = refl
+comparison_after (Op NotEqual) o h = refl
+comparison_after (Op Less) o h = refl
+comparison_after (Op LessEqual) o h = refl
+comparison_after (Op Greater) o h = refl
+comparison_after (Op GreaterEqual) o h = refl
+comparison_after (Op _) o h = absurd (cc)
+comparison_after (Word Key.In) o h = refl
+comparison_after (Word _) o h = absurd (cc)
+comparison_after _ o h = absurd (cc)
 
 abbrev Shape : List Terminal → Type 0
-Shape us = (t : Terminal) × (vs : List Terminal) × (us ≡ t ∷ vs) × (behind t ≡ Some Compares)
+Shape us = (t : Terminal) × (vs : List Terminal) × (us ≡ t ∷ vs) × (following t ≡ Some Compares)
 
 compared_shape : {ss : List Terminal} {o : Comparison} → G.Compared ss o → (us : List Terminal) → Shape (ss ++ us)
-compared_shape (G.one_sign {t = t} {o = o} h) us = (t, us, refl, comparison_behind t o h)
+compared_shape (G.one_sign {t = t} {o = o} h) us = (t, us, refl, comparison_after t o h)
 compared_shape G.not_in us = (Word Key.Not, Word Key.In ∷ us, refl, refl)
 compared_shape G.is us = (Word Key.Is, us, refl, refl)
 compared_shape G.is_not us = (Word Key.Is, Word Key.Not ∷ us, refl, refl)
@@ -401,7 +401,7 @@ pub compares_shape : {us : List Terminal} {os : List Comparison} {es : List Expr
 compares_shape (G.last_compare {ts = ts} c p) = compared_shape c ts
 compares_shape (G.compares {ts = ts} {us = us} c p q) = compared_shape c (ts ++ us)
 
-compares_grip : (t : Terminal) → behind t ≡ Some Compares → grip t ≡ 13
+compares_grip : (t : Terminal) → following t ≡ Some Compares → grip t ≡ 13
 compares_grip t b = rw b refl
 
 shape_grip : (us rest : List Terminal) → Shape us → grip_of (us ++ rest) ≡ 13
@@ -422,7 +422,7 @@ miss_comparison (t ∷ r) hit other h = go (comparison t) refl
   where
     go : (o : Option Comparison) → comparison t ≡ o → on_some o (λ a. hit a r) other ≡ other
     go None q = refl
-    go (Some c) q = absurd (omega (arith, h, shape_grip (t ∷ []) r (t, [], refl, comparison_behind t c q)))
+    go (Some c) q = absurd (omega (arith, h, shape_grip (t ∷ []) r (t, [], refl, comparison_after t c q)))
 
 compare_loop_end : (self : Reads) (m : ℕ) (xs : List Comparison) (acc : List Expr) (r : List Terminal) (k : List Comparison → List Expr
     → List Terminal → Answer Expr) → grip_of r < 13 → compare_loop self m xs acc r k ≡ k xs acc r
@@ -483,7 +483,7 @@ compares_goes ss ts us o e os es c l p w q = (max p.0 q.0, go)
         ∙ ap (λ z. k (xs ++ (o ∷ os)) z rest) (append_assoc acc (e ∷ []) es))
 
 compare_climbs : (ts : List Terminal) (t : Terminal) (vs : List Terminal) (e : Expr) (os : List Comparison) (es : List Expr) (d : ℕ)
-    → behind t ≡ Some Compares → Climbs BitOr ts e (suc d)
+    → following t ≡ Some Compares → Climbs BitOr ts e (suc d)
     → ((rest : List Terminal) → grip_of rest < 13 → (k : List Comparison → List Expr → List Terminal → Answer Expr)
     → compare_loop (read (suc d)) (suc (length (vs ++ rest))) [] [] (t ∷ (vs ++ rest)) k ≡ k os es rest)
     → Climbs Compare (ts ++ (t ∷ vs)) (Trees.Compare e os (exprs es)) (suc d)

@@ -18,7 +18,7 @@ use Rattle.pytree_node.specs.Values.{Value}
 use Rattle.pytoken.specs.Terminals.{Spelled, Terminal, Op, Word, Ident, Literal, FormattedBegin}
 use Rattle.pygrammar.specs.Looks.{exact_number, keyword_number, is_op, is_word, name_in, literal_in, is_formatted_begin}
 use Rattle.pygrammar.specs.Reader.{on_some, on_first, on_name_with}
-use Rattle.pygrammar.specs.Precedence.{lead, behind, infix_rank}
+use Rattle.pygrammar.specs.Precedence.{lead, following, infix_rank}
 
 -- ---- Lists and options of terminals.
 pub heads : {t u : Terminal} {r s : List Terminal} → t ∷ r ≡ u ∷ s → t ≡ u
@@ -164,7 +164,7 @@ grip_else FormattedBegin = 25
 grip_else _ = 0
 
 abbrev pub grip : Terminal → ℕ
-grip t = on_some (behind t) infix_rank (grip_else t)
+grip t = on_some (following t) infix_rank (grip_else t)
 
 abbrev pub grip_of : List Terminal → ℕ
 grip_of [] = 0

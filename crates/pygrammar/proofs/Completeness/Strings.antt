@@ -182,8 +182,8 @@ pub joined_shape : (ks bs rest : List Terminal) → (FormattedBegin ∷ (ks ++ (
     (ks ++ (FormattedEnd ∷ (bs ++ rest)))
 joined_shape ks bs rest = ap (λ z. FormattedBegin ∷ z) (append_assoc ks (FormattedEnd ∷ bs) rest)
 
-behind_length : (ks i : List Terminal) → length i ≤ length (ks ++ (FormattedEnd ∷ i))
-behind_length ks i = omega (arith, length-append ks (FormattedEnd ∷ i))
+after_length : (ks i : List Terminal) → length i ≤ length (ks ++ (FormattedEnd ∷ i))
+after_length ks i = omega (arith, length-append ks (FormattedEnd ∷ i))
 
 pub formatted_literal_goes : (u : Bool) (ks bs : List Terminal) (xs ys : List StringPart) → FormattedReads u ks xs → LiteralsRead u bs ys
     → LiteralsRead u (FormattedBegin ∷ (ks ++ (FormattedEnd ∷ bs))) (xs ++ ys)
@@ -200,7 +200,7 @@ formatted_literal_goes u ks bs xs ys k l = (
     go d h acc rest g (suc m) w =
         literals_formatted (read (suc d)) u m acc (acc ++ xs) (ks ++ (FormattedEnd ∷ (bs ++ rest))) (bs ++ rest)
         (formatted_reads u ks xs k d (omega (arith, h)) acc (bs ++ rest))
-        ∙ (l.1 d (omega (arith, h)) (acc ++ xs) rest g m (omega (arith, w, behind_length ks (bs ++ rest)))
+        ∙ (l.1 d (omega (arith, h)) (acc ++ xs) rest g m (omega (arith, w, after_length ks (bs ++ rest)))
         ∙ ap (λ z. Found z rest) (append_assoc acc xs ys))
 
 -- ---- A run with an f-string, from its beginning on.
@@ -225,7 +225,7 @@ joined_goes u ks bs xs ys k l = (
       ∙ ap (λ z. Found (Trees.JoinedStr (values_of u (merged z))) rest) (append_assoc acc xs ys),
 )
 
--- a run that goes on behind some literals
+-- a run that goes on after some literals
 abbrev run : Reads → Values.Value → Answer (List Values.Value) → Answer Expr
 run self v x = and_then x
     (λ vs r1. on_first is_formatted_begin r1 (λ _ r2. on_some (texts_of (v ∷ vs)) (λ ps. joined_step self (kind_of v) ps r2) NoForm)

@@ -20,7 +20,7 @@ use Rattle.pygrammar.proofs.Related.Levels.{r_descend}
 abbrev pub Keeps : {A : Type 0} → Answer A → Answer A → Type 0
 Keeps x y = (x ≡ TooDeep) ⊎ (x ≡ y)
 
--- what is left behind what is found counts less than n
+-- what is left after what is found counts less than n
 abbrev pub Light : {A : Type 0} → ℕ → Answer A → Type 0
 Light n (Found a r) = weight r < n
 Light n NoForm = Unit {0}

@@ -20,7 +20,7 @@ use Rattle.pytoken.specs.Terminals.{Spelled, Terminal, Op, Ident}
 use Rattle.pygrammar.specs.Looks.{is_op, name_in}
 use Rattle.pygrammar.specs.Reader.{Answer, Found, TooDeep, and_then, on_some, on_first, Reads, call_step, operation, prefixed, levels_from}
 use Rattle.pygrammar.specs.Reader.{descend, read}
-use Rattle.pygrammar.specs.Precedence.{Infix, infix_from, prefix_from, infix_rank, behind}
+use Rattle.pygrammar.specs.Precedence.{Infix, infix_from, prefix_from, infix_rank, following}
 use Rattle.pygrammar.specs.Grammar as G
 use Rattle.pytree_height.specs.Heights.{height}
 use Rattle.pygrammar.specs.Capped.{cap, capped_atom, capped_primary, capped_loop, capped_climb, capped_step, capped_descend}
@@ -133,7 +133,7 @@ module _ (b d : ℕ) (le : b ≤ d) (inner : Reads) (all : GoodTo b inner) (deep
       (Found e (t ∷ s)))
   loop_step n k m i e t s a p li h w rec None q = h
   loop_step n k m i e t s a p li h w rec (Some o) q =
-      let v = infix_hit k (behind t) o q in
+      let v = infix_hit k (following t) o q in
       let c : weight (t ∷ s) ≡ suc (weight s) = counted t s (heavy_infix k t o q) in
       good_checked {P = λ f r2. Stands k i f r2 × (length r2 ≤ length s)} (suc d) (suc (suc (weight s))) n (operation inner e o (t ∷ s) s)
       (λ f r2. capped_loop (suc d) inner k m f r2)

@@ -82,23 +82,23 @@ more r = starts (Of Expression) r
 abbrev Further : (List Terminal → Answer Item) → ℕ → List Terminal → Type 0
 Further one m r = (s : List Terminal) × (r ≡ Op Sign.Comma ∷ s) × (more s ≡ true) × (commas one more m s ≡ TooDeep)
 
-abbrev behind_item : (List Terminal → Answer Item) → ℕ → Item → List Terminal → Answer (List Item)
-behind_item one m a r =
+abbrev after_item : (List Terminal → Answer Item) → ℕ → Item → List Terminal → Answer (List Item)
+after_item one m a r =
     on_first (is_op Sign.Comma) r (λ _ r1. cond (more r1) (and_then (commas one more m r1) (λ as_ r2. Found (a ∷ as_) r2))
     (Found (a ∷ []) r1)) (Found (a ∷ []) r)
 
-further : (one : List Terminal → Answer Item) (m : ℕ) (a : Item) (r : List Terminal) → behind_item one m a r ≡ TooDeep → Further one m r
+further : (one : List Terminal → Answer Item) (m : ℕ) (a : Item) (r : List Terminal) → after_item one m a r ≡ TooDeep → Further one m r
 further one m a [] h = absurd (deep_not_found _ _ h)
 further one m a (t ∷ s) h = elim (op_or_not Sign.Comma t) [
-  | inl e ↦ let p = inside s (subst (λ z. behind_item one m a (z ∷ s) ≡ TooDeep) e h) in (s, ap (λ z. z ∷ s) e, p.0, p.1)
+  | inl e ↦ let p = inside s (subst (λ z. after_item one m a (z ∷ s) ≡ TooDeep) e h) in (s, ap (λ z. z ∷ s) e, p.0, p.1)
   | inr w ↦ absurd (deep_not_found _ _ (sym (missing w) ∙ h))
 ]
   where
-    missing : is_op Sign.Comma t ≡ None → behind_item one m a (t ∷ s) ≡ Found (a ∷ []) (t ∷ s)
+    missing : is_op Sign.Comma t ≡ None → after_item one m a (t ∷ s) ≡ Found (a ∷ []) (t ∷ s)
     missing w = ap (λ o. on_some o (λ _. cond (more s) (and_then (commas one more m s) (λ as_ r2. Found (a ∷ as_) r2)) (Found (a ∷ []) s))
         (Found (a ∷ []) (t ∷ s))) w
 
-    inside : (s : List Terminal) → behind_item one m a (Op Sign.Comma ∷ s) ≡ TooDeep → (more s ≡ true) × (commas one more m s ≡ TooDeep)
+    inside : (s : List Terminal) → after_item one m a (Op Sign.Comma ∷ s) ≡ TooDeep → (more s ≡ true) × (commas one more m s ≡ TooDeep)
     inside s h = by (more s) (commas one more m s) h
       where
         by : (b : Bool) (x : Answer (List Item)) → cond b (and_then x (λ as_ r2. Found (a ∷ as_) r2)) (Found (a ∷ []) s) ≡ TooDeep
@@ -125,13 +125,13 @@ module _ (h d : ℕ) where
   abbrev one : List Terminal → Answer Item
   one i = read_item room i
 
-  abbrev behind_expression : Expr → List Terminal → Answer Item
-  behind_expression e r =
+  abbrev following_expression : Expr → List Terminal → Answer Item
+  following_expression e r =
       on_first (is_word Key.As) r (λ _ r1. and_then (item_target room r1) (λ t r2. Found (item e (Some t)) r2)) (Found (item e None) r)
 
   -- nothing that goes too deep begins so
   no_first : (m : ℕ) (i : List Terminal) → room Expression i ≡ NoForm → commas one more (suc m) i ≡ TooDeep → ⊥
-  no_first m i q p = deep_not_none (sym (ap (λ z. and_then (and_then z behind_expression) (behind_item one m)) q) ∙ p)
+  no_first m i q p = deep_not_none (sym (ap (λ z. and_then (and_then z following_expression) (after_item one m)) q) ∙ p)
 
   no_star : (m : ℕ) (i : List Terminal) → commas one more (suc m) i ≡ TooDeep → (u : List Terminal) → i ≡ Op Sign.Star ∷ u → ⊥
   no_star m i p u q = no_first m (Op Sign.Star ∷ u) refl (subst (λ z. commas one more (suc m) z ≡ TooDeep) q p)
@@ -145,7 +145,7 @@ module _ (h d : ℕ) where
   no_named : (m : ℕ) (i : List Terminal) → commas one more (suc m) i ≡ TooDeep → (a : Spelled) (u : List Terminal)
       → i ≡ Ident a ∷ (Op Sign.ColonEqual ∷ u) → ⊥
   no_named m i p a u q = deep_not_found (item (Trees.Name a.form Load) None ∷ []) (Op Sign.ColonEqual ∷ u)
-      (sym (ap (λ z. and_then (and_then z behind_expression) (behind_item one m)) room_name)
+      (sym (ap (λ z. and_then (and_then z following_expression) (after_item one m)) room_name)
       ∙ subst (λ z. commas one more (suc m) z ≡ TooDeep) q p)
     where
       low : (n : ℕ) (e : Expr) (r : List Terminal) → Over height n (Found e r) → n ≤ height e
@@ -175,14 +175,14 @@ module _ (h d : ℕ) where
           shorter = let p = sound_front (suc h) Expression i r e (capped_found (suc h) (suc d) Expression i e r q) in
               omega (arith, ap length p.1, length-append p.0 r)
 
-          comma : behind_expression e r ≡ Found (item e None) r → Higher (K e r)
+          comma : following_expression e r ≡ Found (item e None) r → Higher (K e r)
           comma p =
-              let f = further one m (item e None) r (sym (ap (λ z. and_then (and_then z behind_expression) (behind_item one m)) q
-              ∙ ap (λ z. and_then z (behind_item one m)) p) ∙ deep) in
+              let f = further one m (item e None) r (sym (ap (λ z. and_then (and_then z following_expression) (after_item one m)) q
+              ∙ ap (λ z. and_then z (after_item one m)) p) ∙ deep) in
               subst (λ z. Higher (K e z)) (sym f.1) (goes e f.0 (omega (arith, shorter, ap length f.1)) f.2 f.3)
 
           by : (s : List Terminal) → r ≡ s → Higher (K e r)
-          by [] p = comma (subst (λ z. behind_expression e z ≡ Found (item e None) z) (sym p) refl)
+          by [] p = comma (subst (λ z. following_expression e z ≡ Found (item e None) z) (sym p) refl)
           by (t ∷ s) p = elim (word_or_not Key.As t) [
             | inl w ↦ subst (λ z. Higher (K e z)) (sym (p ∙ ap (λ z. z ∷ s) w)) (named e s)
             | inr w ↦ comma (word_misses Key.As r _ _ (λ u v. some_none 0 (ap (is_word Key.As) (heads (sym v ∙ p)) ∙ w)))
@@ -212,8 +212,8 @@ module _ (h d : ℕ) where
   elements m acc r = listing_loop (piece (read h) (Of Elem)) (Of Elem) m acc r
 
   -- after an element
-  abbrev behind_element : Expr → ℕ → List Entry → Expr → List Terminal → Answer Expr
-  behind_element c m acc e r =
+  abbrev after_element : Expr → ℕ → List Entry → Expr → List Terminal → Answer Expr
+  after_element c m acc e r =
       and_then (on_first (is_op Sign.Comma) r (λ _ r2. elements m (acc ++ (Single e ∷ [])) r2) (Found (acc ++ (Single e ∷ [])) r))
       (tuple_closed c)
 
@@ -228,7 +228,7 @@ module _ (h d : ℕ) where
 
   -- one element of those
   step : (c : Expr) (m : ℕ) (acc : List Entry) (i : List Terminal) → starts (Of Elem) i ≡ true
-      → and_then (elements (suc m) acc i) (tuple_closed c) ≡ and_then (read h Elem i) (behind_element c m acc)
+      → and_then (elements (suc m) acc i) (tuple_closed c) ≡ and_then (read h Elem i) (after_element c m acc)
   step c m acc i q = ap
       (λ b. and_then (cond b
       (and_then (piece (read h) (Of Elem) i) (λ a r. on_first (is_op Sign.Comma) r (λ _ r2. elements m (acc ++ (a ∷ [])) r2)
@@ -237,7 +237,7 @@ module _ (h d : ℕ) where
       nested : (x : Answer Expr)
           → and_then (and_then (and_then x (λ e r. Found (Single e) r))
           (λ a r. on_first (is_op Sign.Comma) r (λ _ r2. elements m (acc ++ (a ∷ [])) r2) (Found (acc ++ (a ∷ [])) r))) (tuple_closed c) ≡
-          and_then x (behind_element c m acc)
+          and_then x (after_element c m acc)
       nested (Found e r) = refl
       nested NoForm = refl
       nested TooDeep = refl
@@ -248,7 +248,7 @@ module _ (h d : ℕ) where
   over_elements (suc m) k c acc [] b q w = absurd (cc)
   over_elements (suc m) zero c acc (t ∷ r) b q w = absurd (omega (arith, w))
   over_elements (suc m) (suc k) c acc (t ∷ r) b q w = subst Higher (sym (step c k acc (t ∷ r) (elem_starts (t ∷ r) b)))
-      (element m (t ∷ r) (behind_element c k acc) q
+      (element m (t ∷ r) (after_element c k acc) q
       (λ e s v. over_on (list_size (Of Elem)) height (suc (suc d)) (suc (suc d)) _ (tuple_closed c)
       (over_first (list_size (Of Elem)) (suc (suc d)) (is_op Sign.Comma) s _ _
       (λ _ r2. over_listing (suc (suc d)) (piece (read h) (Of Elem)) (Of Elem) k (acc ++ (Single e ∷ [])) r2
@@ -258,15 +258,15 @@ module _ (h d : ℕ) where
       (λ e s le x y. over_elements m k c (acc ++ (Single e ∷ [])) s x y (omega (arith, w, le))))
 
   -- round brackets
-  abbrev behind_first : List Terminal → Expr → List Terminal → Answer Expr
-  behind_first i e r =
+  abbrev following_first : List Terminal → Expr → List Terminal → Answer Expr
+  following_first i e r =
       on_first (is_op Sign.Comma) r (λ _ r1. and_then (listing_of (read h) (Of Elem) [] r1) (tuple_closed e))
       (unstarred i (cond (starts_comp r) (comps_closed (read h) Sign.RPar r (λ gs. Trees.GeneratorExp e (comprehensions gs)))
       (closed Sign.RPar r e)))
 
   over_round : (m : ℕ) (i : List Terminal) → commas one more (suc m) i ≡ TooDeep → Higher (round (read h) i)
   over_round m i q = subst Higher (sym (op_misses Sign.RPar i _ _ (no_bracket m i q) ∙ word_misses Key.Yield i _ _ (no_yield m i q)))
-      (element m i (behind_first i) q
+      (element m i (following_first i) q
       (λ e r w. over_first height (suc (suc d)) (is_op Sign.Comma) r _ _
       (λ _ r1. over_then height (suc (suc d)) (listing_of (read h) (Of Elem) [] r1) (tuple_closed e)
       (λ es r2. over_closed height (suc (suc d)) Sign.RPar r2 (Trees.Tuple (an_expr e (singles es)) Load) (omega (arith, w))))
@@ -288,8 +288,8 @@ module _ (h d : ℕ) where
       (λ e r v. over_if_else (read h) (light_read h) (suc (suc d)) e r v)
 
   -- after the items in brackets nothing goes too deep
-  abbrev behind_items : List Item → List Terminal → Answer (List Item)
-  behind_items is r = on_first (is_op Sign.RPar) r (λ _ r2. on_first (is_op Sign.Colon) r2 (λ _ _. Found is r2) NoForm) NoForm
+  abbrev after_items : List Item → List Terminal → Answer (List Item)
+  after_items is r = on_first (is_op Sign.RPar) r (λ _ r2. on_first (is_op Sign.Colon) r2 (λ _ _. Found is r2) NoForm) NoForm
 
   sign_calm : (y : Exact) (r : List Terminal) (k : List Terminal → Answer (List Item)) → ((s : List Terminal) → k s ≡ TooDeep → ⊥)
       → on_first (is_op y) r (λ _ s. k s) NoForm ≡ TooDeep → ⊥
@@ -300,7 +300,7 @@ module _ (h d : ℕ) where
       by None q = deep_not_none q
       by (Some a) q = calm r q
 
-  items_calm : (x : Answer (List Item)) → and_then x behind_items ≡ TooDeep → x ≡ TooDeep
+  items_calm : (x : Answer (List Item)) → and_then x after_items ≡ TooDeep → x ≡ TooDeep
   items_calm TooDeep q = refl
   items_calm NoForm q = absurd (deep_not_none q)
   items_calm (Found is r) q =
@@ -313,7 +313,7 @@ module _ (h d : ℕ) where
     | inl e ↦ subst (λ z. Higher (read (suc h) Expression (z ∷ r))) (sym e)
         (over_opened r (over_round (length r) r (items_calm (commas_of one more r) (subst (λ z. bracketed room (z ∷ r) ≡ TooDeep) e q))))
     | inr w ↦ absurd (deep_not_none
-        (sym (op_misses Sign.LPar (t ∷ r) (λ _ s. and_then (commas_of one more s) behind_items) NoForm
+        (sym (op_misses Sign.LPar (t ∷ r) (λ _ s. and_then (commas_of one more s) after_items) NoForm
         (λ u v. some_none 0 (sym (ap (is_op Sign.LPar) (heads v)) ∙ w))) ∙ q))
   ]
 

@@ -23,7 +23,7 @@ use Rattle.pygrammar.proofs.Depths.Keeps.{Keeps, Light, Lighter}
 use Rattle.pygrammar.proofs.Depths.Weights.{weight_next}
 use Rattle.pygrammar.proofs.Related.Sizes.{under}
 use Rattle.pygrammar.proofs.Related.Rules.{To}
-use Rattle.pygrammar.proofs.Related.Lines.{r_bracketed, r_bare_items, r_behind_pattern, r_case_rest, r_place}
+use Rattle.pygrammar.proofs.Related.Lines.{r_bracketed, r_bare_items, r_after_pattern, r_case_rest, r_place}
 use Rattle.pygrammar.proofs.Heights.Over.{Over, none, sunk, Caps, CapsAt}
 use Rattle.pygrammar.proofs.Heights.Caps.{CapsOf, caps_kept, caps_in, over_kept, over_all, over_least, over_up, over_down, lowered}
 use Rattle.pygrammar.proofs.Pattern.Ends.{EndsPattern, pattern_grip}
@@ -50,23 +50,23 @@ module _ (n : ℕ) (self other : Reads) (all : CapsAt n self other) (calm : Ligh
             (λ q. over_up item_heights (suc n) (commas_of (read_item other) always i) (brackets i q)),
       )
 
-  -- behind the pattern of a case
-  abbrev behind_pattern : Profile → Reads → Pattern → List Terminal → Answer Form
-  behind_pattern profile reads p r =
+  -- after the pattern of a case
+  abbrev after_pattern : Profile → Reads → Pattern → List Terminal → Answer Form
+  after_pattern profile reads p r =
       and_then (after reads (Word Key.If) Named r)
       (λ g r1. on_first (is_op Sign.Colon) r1 (λ _ u. suite profile reads (case_header p g) u) NoForm)
 
   over_high : (profile : Profile) (p : Pattern) (r : List Terminal) → suc n ≤ pattern_height p
-      → Over form_height (suc n) (behind_pattern profile other p r)
-  over_high profile p r w = over_down form_height (suc n) (behind_pattern profile other p r)
-      ((r_behind_pattern over_kept other other (suc (weight r)) (over_all other calm (suc (weight r))) profile (suc (suc n)) p r
+      → Over form_height (suc n) (after_pattern profile other p r)
+  over_high profile p r w = over_down form_height (suc n) (after_pattern profile other p r)
+      ((r_after_pattern over_kept other other (suc (weight r)) (over_all other calm (suc (weight r))) profile (suc (suc n)) p r
       (omega (arith, w)) (omega arith)).1)
 
   -- a pattern is ended by `if` or a colon, or else there is no form
-  over_behind : (profile : Profile) (p : Pattern) (r : List Terminal) → (EndsPattern Patterns r → suc n ≤ pattern_height p)
-      → Over form_height (suc n) (behind_pattern profile other p r)
-  over_behind profile p [] h = none
-  over_behind profile p (t ∷ s) h = elim (word_or_not Key.If t) [
+  over_after : (profile : Profile) (p : Pattern) (r : List Terminal) → (EndsPattern Patterns r → suc n ≤ pattern_height p)
+      → Over form_height (suc n) (after_pattern profile other p r)
+  over_after profile p [] h = none
+  over_after profile p (t ∷ s) h = elim (word_or_not Key.If t) [
     | inl e ↦ over_high profile p (t ∷ s) (h (ended t (Word Key.If) e (omega arith)))
     | inr a ↦ elim (op_or_not Sign.Colon t) [
       | inl e ↦ over_high profile p (t ∷ s) (h (ended t (Op Sign.Colon) e (omega arith)))
@@ -77,12 +77,12 @@ module _ (n : ℕ) (self other : Reads) (all : CapsAt n self other) (calm : Ligh
       ended : (t u : Terminal) → t ≡ u → pattern_grip u < 1 → pattern_grip t < 1
       ended t u e w = omega (arith, w, ap pattern_grip e)
 
-      neither : is_word Key.If t ≡ None → is_op Sign.Colon t ≡ None → behind_pattern profile other p (t ∷ s) ≡ NoForm
+      neither : is_word Key.If t ≡ None → is_op Sign.Colon t ≡ None → after_pattern profile other p (t ∷ s) ≡ NoForm
       neither a b = ap (λ o. and_then (on_some o (λ _. and_then (other Named s) (λ e r1. Found (Some e) r1)) (Found None (t ∷ s)))
           (λ g r1. on_first (is_op Sign.Colon) r1 (λ _ u. suite profile other (case_header p g) u) NoForm)) a
           ∙ ap (λ o. on_some o (λ _. suite profile other (case_header p None) s) NoForm) b
 
-  -- patterns behind the first terminal of a line: where the one reader goes too deep, what the other finds is too high
+  -- patterns after the first terminal of a line: where the one reader goes too deep, what the other finds is too high
   module _ (patterns others : PatternReads) (every : (l : PatternLevel) (i : List Terminal) → Keeps (patterns l i) (others l i))
       (gentle : (l : PatternLevel) (i : List Terminal) → Light (suc (weight i)) (others l i)) where
     abbrev Higher : List Terminal → Type 0
@@ -105,8 +105,8 @@ module _ (n : ℕ) (self other : Reads) (all : CapsAt n self other) (calm : Ligh
             (calm_pattern i (omega (arith, w, weight_next t i)), over_least (under pattern_height) (others Patterns i))).0,
         over_least (under form_height) (case_front profile other others (t ∷ i)),
         λ _. inr (
-          ap (λ z. and_then z (behind_pattern profile self)) q,
-          over_up form_height (suc n) (and_then (others Patterns i) (behind_pattern profile other)) (high q (others Patterns i) refl),
+          ap (λ z. and_then z (after_pattern profile self)) q,
+          over_up form_height (suc n) (and_then (others Patterns i) (after_pattern profile other)) (high q (others Patterns i) refl),
         ),
       )
       | inr q ↦ r_case_rest (caps_kept (suc n)) self other b within profile patterns others i
@@ -114,8 +114,8 @@ module _ (n : ℕ) (self other : Reads) (all : CapsAt n self other) (calm : Ligh
     ]
       where
         high : patterns Patterns i ≡ TooDeep → (x : Answer Pattern) → others Patterns i ≡ x
-            → Over form_height (suc n) (and_then x (behind_pattern profile other))
-        high q (Found p r) k = over_behind profile p r (λ e. h Patterns i r p (omega arith) q k e)
+            → Over form_height (suc n) (and_then x (after_pattern profile other))
+        high q (Found p r) k = over_after profile p r (λ e. h Patterns i r p (omega arith) q k e)
         high q NoForm k = none
         high q TooDeep k = sunk
 

@@ -55,15 +55,15 @@ module _ {A : Type 0} (s : A → ℕ) (t : List A → ℕ) (join : (a : A) (as_ 
       go TooDeep h = sunk
 
 -- an item whose expression is high
-over_behind : (n : ℕ) (other : Reads) (e : Expr) (r : List Terminal) → suc n ≤ height e
+over_after : (n : ℕ) (other : Reads) (e : Expr) (r : List Terminal) → suc n ≤ height e
     → Over item_height (suc n) (on_first (is_word Key.As) r (λ _ s. and_then (item_target other s) (λ t r2. Found (item e (Some t)) r2))
     (Found (item e None) r))
-over_behind n other e r w = over_first item_height (suc n) (is_word Key.As) r _ _
+over_after n other e r w = over_first item_height (suc n) (is_word Key.As) r _ _
     (λ _ s. over_found item_height (suc n) (item_target other s) (λ t. item e (Some t)) (λ t. omega (arith, w))) (over (omega (arith, w)))
 
 pub over_item : (n : ℕ) (other : Reads) (i : List Terminal) → Over height (suc n) (other Expression i)
     → Over item_height (suc n) (read_item other i)
-over_item n other i w = over_on height item_height (suc n) (suc n) (other Expression i) _ w (λ e r v. over_behind n other e r v)
+over_item n other i w = over_on height item_height (suc n) (suc n) (other Expression i) _ w (λ e r v. over_after n other e r v)
 
 -- where items in brackets go too deep, the items without them are high
 abbrev pub Brackets : ℕ → Reads → Reads → Type 0

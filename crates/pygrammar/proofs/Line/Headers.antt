@@ -126,8 +126,8 @@ module _ (r : List Terminal) (w : grip_of r ≤ 8) (g : grip_of r ≡ 3 → ⊥)
   ]
 
 -- ---- Items of a `with`.
-abbrev pub Behind : List Terminal → Type 0
-Behind r = (grip_of r ≤ 8) × (peek (is_word Key.As) r ≡ None)
+abbrev pub Following : List Terminal → Type 0
+Following r = (grip_of r ≤ 8) × (peek (is_word Key.As) r ≡ None)
 
 item_target_goes : {ts : List Terminal} {s : Expr} → G.ItemTarget ts s → (r : List Terminal) → grip_of r ≤ 8
     → item_target plain (ts ++ r) ≡ Found s r
@@ -135,7 +135,7 @@ item_target_goes (G.item_target {ts = ts} p q) r w = pass_op Sign.Star ts r _ _ 
     ∙ thus _ _ (front p r w) (ap (λ o. made o r) q)
 item_target_goes (G.star_target p q) r w = thus _ _ (front p r w) (ap (λ o. made o r) q)
 
-pub item_goes : (ts : List Terminal) (a : Trees.Item) → F.ItemOf ts a → (r : List Terminal) → Behind r
+pub item_goes : (ts : List Terminal) (a : Trees.Item) → F.ItemOf ts a → (r : List Terminal) → Following r
     → read_item plain (ts ++ r) ≡ Found a r
 item_goes _ _ (F.bare_item p) r g = thus _ _ (front p r g.0) (missed (is_word Key.As) r _ _ g.1)
 item_goes _ _ (F.item_as {ts = ts} {us = us} p q) r g = ap (read_item plain) (append_assoc ts (Word Key.As ∷ us) r)
@@ -148,7 +148,7 @@ item_starts _ _ (F.item_as {ts = ts} {us = us} p q) r = ap (starts (Of Expressio
 
 pub items_goes : {ts : List Terminal} {is : List Trees.Item} → F.Commas Trees.Item F.ItemOf ts is → (r : List Terminal)
     → commas_of (read_item plain) always (ts ++ (Op Sign.Colon ∷ r)) ≡ Found is (Op Sign.Colon ∷ r)
-items_goes c r = commas_goes Trees.Item F.ItemOf (read_item plain) always Behind item_goes (λ ts a x r. refl) (λ r. (omega arith, refl)) c
+items_goes c r = commas_goes Trees.Item F.ItemOf (read_item plain) always Following item_goes (λ ts a x r. refl) (λ r. (omega arith, refl)) c
     (Op Sign.Colon ∷ r) refl (omega arith, refl)
 
 pub bracketed_goes : {ts : List Terminal} {is : List Trees.Item} → F.Bracketed ts is → (r : List Terminal)
@@ -157,7 +157,7 @@ bracketed_goes (F.bracketed {ts = ts} c) r =
     let z = Op Sign.Colon ∷ r in
     thus (commas_of (read_item plain) (starts (Of Expression)) ((ts ++ (Op Sign.RPar ∷ [])) ++ z)) _
     (ap (commas_of (read_item plain) (starts (Of Expression))) (append_assoc ts (Op Sign.RPar ∷ []) z)
-    ∙ commas?_goes Trees.Item F.ItemOf (read_item plain) (starts (Of Expression)) Behind item_goes item_starts
+    ∙ commas?_goes Trees.Item F.ItemOf (read_item plain) (starts (Of Expression)) Following item_goes item_starts
     (λ r. (omega arith, refl)) c (Op Sign.RPar ∷ z) refl refl (omega arith, refl)) refl
 
 -- ---- Headers.
@@ -181,7 +181,7 @@ except_goes {ts} {us} b p a r =
     (thus _ _ (as_goes a z refl) refl)
 
 function_goes : {us vs : List Terminal} (b : Bool) (x : Identifier) (tps : List TypeParam) {ps : List Entry} {a : Arguments}
-    {e : Option Expr} → G.Listing (Parameter true) us ps → arranged ps ≡ Some a → F.Behind (Op Sign.RArrow) Expression vs e
+    {e : Option Expr} → G.Listing (Parameter true) us ps → arranged ps ≡ Some a → F.Following (Op Sign.RArrow) Expression vs e
     → (r : List Terminal) → function_rest plain b x tps (Op Sign.LPar ∷ ((us ++ (Op Sign.RPar ∷ vs)) ++ (Op Sign.Colon ∷ r))) ≡ Found
     (def_header (function_head b x tps a e)) (Op Sign.Colon ∷ r)
 function_goes {us} {vs} b x tps {ps} {a} {e} c q k r =
@@ -199,7 +199,7 @@ function_goes {us} {vs} b x tps {ps} {a} {e} c q k r =
 
 pub def_goes : (profile : Profile) {us vs ws : List Terminal} (b : Bool) (x : Spelled) {tps : List TypeParam} {ps : List Entry}
     {a : Arguments} {e : Option Expr} → F.TypeParams profile us tps → G.Listing (Parameter true) vs ps → arranged ps ≡ Some a
-    → F.Behind (Op Sign.RArrow) Expression ws e → (r : List Terminal)
+    → F.Following (Op Sign.RArrow) Expression ws e → (r : List Terminal)
     → def_rest profile plain b (Ident x ∷ ((us ++ (Op Sign.LPar ∷ (vs ++ (Op Sign.RPar ∷ ws)))) ++ (Op Sign.Colon ∷ r))) ≡ Found
     (def_header (function_head b x.form tps a e)) (Op Sign.Colon ∷ r)
 def_goes profile {us} {vs} {ws} b x {tps} g c q k r =

@@ -150,13 +150,13 @@ line_goes profile (F.match_line form w p) = match_goes profile form w p
 
 -- ---- The header of a case.
 
-guard_ends : {us : List Terminal} {g : Option Expr} → F.Behind (Word Key.If) Named us g → (r : List Terminal)
+guard_ends : {us : List Terminal} {g : Option Expr} → F.Following (Word Key.If) Named us g → (r : List Terminal)
     → EndsPattern Patterns (us ++ (Op Sign.Colon ∷ r))
-guard_ends F.none_behind r = omega arith
-guard_ends (F.behind p) r = omega arith
+guard_ends F.none_after r = omega arith
+guard_ends (F.following p) r = omega arith
 
 case_rest_goes : (profile : Profile) {ts us : List Terminal} {p : Pattern} {g : Option Expr} → DerivesPattern Patterns ts p
-    → F.Behind (Word Key.If) Named us g → (r : List Terminal) → case_rest profile plain plain_pattern ((ts ++ us) ++ (Op Sign.Colon ∷ r)) ≡
+    → F.Following (Word Key.If) Named us g → (r : List Terminal) → case_rest profile plain plain_pattern ((ts ++ us) ++ (Op Sign.Colon ∷ r)) ≡
     suite profile plain (case_header p g) r
 case_rest_goes profile {ts} {us} q k r =
     let z = Op Sign.Colon ∷ r in

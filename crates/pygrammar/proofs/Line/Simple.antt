@@ -23,7 +23,7 @@ use Rattle.pygrammar.proofs.Completeness.Comps.{starts_low}
 use Rattle.pygrammar.specs.Forms as F
 use Rattle.pygrammar.specs.LineReader.{plain, deleted_one, statement, statements, on_none}
 use Rattle.pygrammar.proofs.Line.Tools.{thus, when, unless, Ends, at_end, at_semi, ends_grip, ends_lead, ends_miss, front, started}
-use Rattle.pygrammar.proofs.Line.Tools.{if_any_goes, after_goes, behind_grip, commas?_goes}
+use Rattle.pygrammar.proofs.Line.Tools.{if_any_goes, after_goes, after_grip, commas?_goes}
 use Rattle.pygrammar.proofs.Line.Imports.{identifiers_goes, modules_goes, from_module_goes, from_dots_goes}
 use Rattle.pygrammar.proofs.Line.Types.{alias_goes}
 use Rattle.pygrammar.proofs.Line.Values.{expression_goes, assign_goes, augmented_goes, name_annotated_goes, part_annotated_goes}
@@ -56,10 +56,10 @@ simple_goes profile (F.return_of p) r w =
     thus _ _ (if_any_goes p r (omega (arith, ends_grip w), omega (arith, ends_lead w)) (omega (arith, ends_lead w))) refl
 simple_goes profile F.raise_alone r w = unless _ _ _ (not_begun w) refl
 simple_goes profile (F.raise_of {ts = ts} {us = us} p q) r w = ap (λ z. statement profile plain (Word Key.Raise ∷ z)) (append_assoc ts us r)
-    ∙ when _ _ _ (started p (us ++ r)) (thus _ _ (front p (us ++ r) (behind_grip q r (omega arith) (low w)))
+    ∙ when _ _ _ (started p (us ++ r)) (thus _ _ (front p (us ++ r) (after_grip q r (omega arith) (low w)))
     (thus _ _ (after_goes q refl r (low w) (ends_miss (is_word Key.From) refl w)) refl))
 simple_goes profile (F.assert_of {ts = ts} {us = us} p q) r w = ap (λ z. statement profile plain (Word Key.Assert ∷ z))
-    (append_assoc ts us r) ∙ thus _ _ (front p (us ++ r) (behind_grip q r (omega arith) (low w)))
+    (append_assoc ts us r) ∙ thus _ _ (front p (us ++ r) (after_grip q r (omega arith) (low w)))
     (thus _ _ (after_goes q refl r (low w) (ends_miss (is_op Sign.Comma) refl w)) refl)
 simple_goes profile (F.delete c) r w =
     thus _ _ (commas?_goes Expr G.DelTarget (deleted_one plain) (starts (Of Expression)) (Stops Expression) deleted_goes deleted_starts

@@ -153,7 +153,7 @@ header_sound profile i = no_form
 abbrev LineAt : Profile → List Terminal → Form → List Terminal → Type 0
 LineAt profile i f r = r ≡ [] → F.FormOf profile i f
 
--- what is read behind a colon
+-- what is read after a colon
 suite_says : (profile : Profile) (u : List Terminal) (h : Header) {Q : Form → List Terminal → Type 0} → (u ≡ [] → Q (header_form h None) [])
     → ((us r : List Terminal) (ss : List Stmt) → u ≡ us ++ r → F.Simples profile us ss → Q (header_form h (Some ss)) r)
     → Says Q (suite profile plain h u)

@@ -81,15 +81,15 @@ pub if_any_sound : (l : Level) (i : List Terminal) → Says (At (F.Perhaps l) i)
 if_any_sound l i = says_cond (starts (Of l) i) _ _ (says_then _ _ (plain_sound l i) (λ e r p. found (p.0, p.1, F.given p.2)))
     (found ([], refl, F.left_out))
 
-pub after_op_sound : (x : Exact) (l : Level) (i : List Terminal) → Says (At (F.Behind (Op x) l) i) (after plain (Op x) l i)
+pub after_op_sound : (x : Exact) (l : Level) (i : List Terminal) → Says (At (F.Following (Op x) l) i) (after plain (Op x) l i)
 after_op_sound x l i =
-    says_op x i _ _ (λ _ s q. says_then _ _ (plain_sound l s) (λ e r p. found (Op x ∷ p.0, headed (Op x) q p.1, F.behind p.2)))
-    (λ _. found ([], refl, F.none_behind))
+    says_op x i _ _ (λ _ s q. says_then _ _ (plain_sound l s) (λ e r p. found (Op x ∷ p.0, headed (Op x) q p.1, F.following p.2)))
+    (λ _. found ([], refl, F.none_after))
 
-pub after_word_sound : (x : Keyword) (l : Level) (i : List Terminal) → Says (At (F.Behind (Word x) l) i) (after plain (Word x) l i)
+pub after_word_sound : (x : Keyword) (l : Level) (i : List Terminal) → Says (At (F.Following (Word x) l) i) (after plain (Word x) l i)
 after_word_sound x l i =
-    says_word x i _ _ (λ _ s q. says_then _ _ (plain_sound l s) (λ e r p. found (Word x ∷ p.0, headed (Word x) q p.1, F.behind p.2)))
-    (λ _. found ([], refl, F.none_behind))
+    says_word x i _ _ (λ _ s q. says_then _ _ (plain_sound l s) (λ e r p. found (Word x ∷ p.0, headed (Word x) q p.1, F.following p.2)))
+    (λ _. found ([], refl, F.none_after))
 
 pub as_sound : (i : List Terminal) → Says (At F.As i) (read_as i)
 as_sound i = says_word Key.As i _ _

@@ -34,7 +34,7 @@ use Rattle.pygrammar.proofs.Line.Invert.{to_primary, name_inv, stored_name, targ
 -- annotations
 abbrev AnnotationAt : Expr → Bool → List Terminal → Stmt → List Terminal → Type 0
 AnnotationAt t b i s r = (us : List Terminal) × (vs : List Terminal) × (a : Expr) × (v : Option Expr) × (i ≡ (us ++ vs) ++ r) ×
-    (s ≡ AnnAssign t a v b) × G.Derives Expression us a × F.Behind (Op Sign.Equal) Value vs v
+    (s ≡ AnnAssign t a v b) × G.Derives Expression us a × F.Following (Op Sign.Equal) Value vs v
 
 annotation_sound : (t : Expr) (b : Bool) (i : List Terminal) → Says (AnnotationAt t b i) (annotation plain t b i)
 annotation_sound t b i = says_then _ _ (plain_sound Expression i) (λ a r p. says_then _ _ (after_op_sound Sign.Equal Value r)
@@ -43,7 +43,7 @@ annotation_sound t b i = says_then _ _ (plain_sound Expression i) (λ a r p. say
 -- a target in front of `:` that is no NAME alone
 annotated : (profile : Profile) (r : List Terminal) {i ts us vs : List Terminal} {e t a : Expr} {v : Option Expr}
     → ((x : Spelled) (u : List Terminal) → i ≡ Ident x ∷ (Op Sign.Colon ∷ u) → ⊥) → i ≡ (ts ++ (Op Sign.Colon ∷ (us ++ vs))) ++ r
-    → G.Derives Primary ts e → single_stored e ≡ Some t → G.Derives Expression us a → F.Behind (Op Sign.Equal) Value vs v
+    → G.Derives Primary ts e → single_stored e ≡ Some t → G.Derives Expression us a → F.Following (Op Sign.Equal) Value vs v
     → F.Simple profile (ts ++ (Op Sign.Colon ∷ (us ++ vs))) (AnnAssign t a v false)
 annotated profile r {ts = ts} {us = us} {vs = vs} {e = e} {t = t} {a = a} {v = v} f q p h k b = go (is_name t) refl
   where
@@ -183,15 +183,15 @@ statement_sound profile (t ∷ r) = first_sound profile (t ∷ r)
 pub statements_sound : (profile : Profile) (n : ℕ) (i : List Terminal) → Says (At (F.Simples profile) i) (statements profile plain n i)
 statements_sound profile zero i = no_form
 statements_sound profile (suc n) i = says_then _ _ (statement_sound profile i) (λ s r p. says_op Sign.Semi r _ _
-    (λ _ u q. behind_semi s r p u q (λ _. statements_sound profile n u))
+    (λ _ u q. after_semi s r p u q (λ _. statements_sound profile n u))
     (λ _. found (p.0, p.1, F.last_simple p.2)))
   where
-    behind_semi : (s : Stmt) (r : List Terminal) → At (F.Simple profile) i s r → (u : List Terminal) → r ≡ Op Sign.Semi ∷ u
+    after_semi : (s : Stmt) (r : List Terminal) → At (F.Simple profile) i s r → (u : List Terminal) → r ≡ Op Sign.Semi ∷ u
         → (Unit {0} → Says (At (F.Simples profile) u) (statements profile plain n u))
         → Says (At (F.Simples profile) i)
         (on_none u (Found (s ∷ []) []) (and_then (statements profile plain n u) (λ ss r2. Found (s ∷ ss) r2)))
-    behind_semi s r p [] q k = found (p.0 ++ (Op Sign.Semi ∷ []), joins p.0 (Op Sign.Semi ∷ []) [] p.1 q, F.ended_simple p.2)
-    behind_semi s r p (t ∷ u) q k =
+    after_semi s r p [] q k = found (p.0 ++ (Op Sign.Semi ∷ []), joins p.0 (Op Sign.Semi ∷ []) [] p.1 q, F.ended_simple p.2)
+    after_semi s r p (t ∷ u) q k =
         says_then _ _ (k tt)
         (λ ss r2 y. found (
           p.0 ++ (Op Sign.Semi ∷ y.0),

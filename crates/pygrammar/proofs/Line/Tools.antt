@@ -86,17 +86,17 @@ pub if_any_goes : {l : Level} {ts : List Terminal} {e : Option Expr} → F.Perha
 if_any_goes (F.left_out {l = l}) r s w = unless _ _ _ (starts_low l r w) refl
 if_any_goes (F.given {ts = ts} p) r s w = when _ _ _ (started p r) (thus _ _ (front p r s) refl)
 
-pub after_goes : {t : Terminal} {l : Level} {us : List Terminal} {v : Option Expr} → F.Behind t l us v → same_as t t ≡ Some 0
+pub after_goes : {t : Terminal} {l : Level} {us : List Terminal} {v : Option Expr} → F.Following t l us v → same_as t t ≡ Some 0
     → (r : List Terminal) → Stops l r → peek (same_as t) r ≡ None → after plain t l (us ++ r) ≡ Found v r
-after_goes (F.none_behind {t = t}) h r s m = missed (same_as t) r _ _ m
-after_goes (F.behind {t = t} {l = l} {ts = ts} p) h r s m =
+after_goes (F.none_after {t = t}) h r s m = missed (same_as t) r _ _ m
+after_goes (F.following {t = t} {l = l} {ts = ts} p) h r s m =
     ap (λ o. on_some o (λ _. and_then (plain l (ts ++ r)) (λ e r1. Found (Some e) r1)) (Found None (t ∷ (ts ++ r)))) h
     ∙ thus _ _ (front p r s) refl
 
-pub behind_grip : {t : Terminal} {l : Level} {us : List Terminal} {v : Option Expr} → F.Behind t l us v → (r : List Terminal) → grip t ≤ 8
+pub after_grip : {t : Terminal} {l : Level} {us : List Terminal} {v : Option Expr} → F.Following t l us v → (r : List Terminal) → grip t ≤ 8
     → grip_of r ≤ 8 → grip_of (us ++ r) ≤ 8
-behind_grip F.none_behind r a b = b
-behind_grip (F.behind p) r a b = a
+after_grip F.none_after r a b = b
+after_grip (F.following p) r a b = a
 
 pub as_goes : {us : List Terminal} {x : Option Identifier} → F.As us x → (r : List Terminal) → peek (is_word Key.As) r ≡ None
     → read_as (us ++ r) ≡ Found x r

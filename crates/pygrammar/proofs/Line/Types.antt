@@ -20,10 +20,10 @@ use Rattle.pygrammar.specs.LineReader.{starts_type_param, commas_of, plain, read
 use Rattle.pygrammar.specs.LineReader.{alias_rest, statement}
 use Rattle.pygrammar.proofs.Line.Tools.{thus, when, peek, missed, Ends, ends_grip, front, after_goes, commas?_goes}
 
-abbrev Behind : List Terminal → Type 0
-Behind r = Stops Expression r × (peek (is_op Sign.Colon) r ≡ None)
+abbrev Following : List Terminal → Type 0
+Following r = Stops Expression r × (peek (is_op Sign.Colon) r ≡ None)
 
-type_param_goes : (ts : List Terminal) (a : TypeParam) → F.TypeParamOf ts a → (r : List Terminal) → Behind r
+type_param_goes : (ts : List Terminal) (a : TypeParam) → F.TypeParamOf ts a → (r : List Terminal) → Following r
     → read_type_param plain (ts ++ r) ≡ Found a r
 type_param_goes _ _ (F.type_var k) r g = thus _ _ (after_goes k refl r g.0 g.1) refl
 type_param_goes _ _ F.type_var_tuple r g = refl
@@ -44,7 +44,7 @@ type_params_goes profile F.no_type_params r m = either (has_types profile)
 type_params_goes profile (F.type_params {ts = ts} h c) r m =
     let read = commas_of (read_type_param plain) starts_type_param in
     when _ _ _ h (thus (read ((ts ++ (Op Sign.RSqb ∷ [])) ++ r)) _ (ap read (append_assoc ts (Op Sign.RSqb ∷ []) r)
-    ∙ commas?_goes TypeParam F.TypeParamOf (read_type_param plain) starts_type_param Behind type_param_goes type_param_starts
+    ∙ commas?_goes TypeParam F.TypeParamOf (read_type_param plain) starts_type_param Following type_param_goes type_param_starts
     (λ r. (omega arith, refl)) c (Op Sign.RSqb ∷ r) refl refl (omega arith, refl)) refl)
 
 pub alias_goes : (profile : Profile) (form : Identifier) (x : Spelled) {ts us : List Terminal} {ps : List TypeParam} {e : Expr}

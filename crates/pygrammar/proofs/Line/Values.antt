@@ -29,7 +29,7 @@ use Rattle.pygrammar.specs.Forms.{augmented}
 use Rattle.pygrammar.specs.LineReader.{is_type, on_type, augmented_sign, Values, start, plain, annotation, end_value, value_loop}
 use Rattle.pygrammar.specs.LineReader.{value_statement, alias_rest, statement_of, statement}
 use Rattle.pygrammar.proofs.Line.Tools.{thus, peek, missed, Ends, ends_grip, ends_lead, ends_miss, front, item_of, value_front, after_goes}
-use Rattle.pygrammar.proofs.Line.Tools.{behind_grip}
+use Rattle.pygrammar.proofs.Line.Tools.{after_grip}
 
 valued : (t : Terminal) → 0 < lead t → start t ≡ Values
 valued (Word Key.Return) h = absurd (omega (arith, h))
@@ -199,14 +199,14 @@ augmented_goes profile {ts} {us} x {o} {t} {e} (G.single_target {e = f} p q) a v
 
 -- annotated ones
 annotation_goes : {us vs : List Terminal} {a : Expr} {v : Option Expr} (t : Expr) (b : Bool) → G.Derives Expression us a
-    → F.Behind (Op Sign.Equal) Value vs v → (r : List Terminal) → Ends r
+    → F.Following (Op Sign.Equal) Value vs v → (r : List Terminal) → Ends r
     → annotation plain t b ((us ++ vs) ++ r) ≡ Found (AnnAssign t a v b) r
 annotation_goes {us} {vs} t b p q r w = ap (annotation plain t b) (append_assoc us vs r)
-    ∙ thus _ _ (front p (vs ++ r) (behind_grip q r (omega arith) (omega (arith, ends_grip w))))
+    ∙ thus _ _ (front p (vs ++ r) (after_grip q r (omega arith) (omega (arith, ends_grip w))))
     (thus _ _ (after_goes q refl r (value_stops w) (ends_miss (is_op Sign.Equal) refl w)) refl)
 
 pub name_annotated_goes : (profile : Profile) {us vs : List Terminal} {a : Expr} {v : Option Expr} (x : Spelled) → G.Derives Expression us a
-    → F.Behind (Op Sign.Equal) Value vs v → (r : List Terminal) → Ends r
+    → F.Following (Op Sign.Equal) Value vs v → (r : List Terminal) → Ends r
     → statement profile plain (Ident x ∷ (Op Sign.Colon ∷ ((us ++ vs) ++ r))) ≡ Found (AnnAssign (Trees.Name x.form Store) a v true) r
 name_annotated_goes profile {us} {vs} x p q r w =
     let i = Op Sign.Colon ∷ ((us ++ vs) ++ r) in
@@ -217,7 +217,7 @@ name_annotated_goes profile {us} {vs} x p q r w =
 annotated_goes : (profile : Profile) (r : List Terminal) {ts us vs : List Terminal} {f t a : Expr} {v : Option Expr}
     → G.Derives Primary ts f → single_stored f ≡ Some t
     → ((x : Spelled) (zs : List Terminal) → ts ++ (Op Sign.Colon ∷ ((us ++ vs) ++ r)) ≡ Ident x ∷ (Op Sign.Colon ∷ zs) → ⊥)
-    → G.Derives Expression us a → F.Behind (Op Sign.Equal) Value vs v → Ends r
+    → G.Derives Expression us a → F.Following (Op Sign.Equal) Value vs v → Ends r
     → statement profile plain (ts ++ (Op Sign.Colon ∷ ((us ++ vs) ++ r))) ≡ Found (AnnAssign t a v false) r
 annotated_goes profile r {ts} {us} {vs} {f} {t} p q n k b w =
     let y = (us ++ vs) ++ r in
@@ -234,7 +234,7 @@ differ : ◌≡◌ {A = Bool} true false → ⊥
 differ h = absurd (cc)
 
 pub part_annotated_goes : (profile : Profile) {ts us vs : List Terminal} {t a : Expr} {v : Option Expr} → G.SingleTarget ts t
-    → F.is_name t ≡ false → G.Derives Expression us a → F.Behind (Op Sign.Equal) Value vs v → (r : List Terminal) → Ends r
+    → F.is_name t ≡ false → G.Derives Expression us a → F.Following (Op Sign.Equal) Value vs v → (r : List Terminal) → Ends r
     → statement profile plain ((ts ++ (Op Sign.Colon ∷ (us ++ vs))) ++ r) ≡ Found (AnnAssign t a v false) r
 part_annotated_goes profile {ts} {us} {vs} {t} (G.single_target {e = f} p q) n k b r w =
     ap (statement profile plain) (append_assoc ts (Op Sign.Colon ∷ (us ++ vs)) r) ∙ annotated_goes profile r p q (λ x zs e.
@@ -244,7 +244,7 @@ part_annotated_goes profile {ts} {us} {vs} {t} (G.single_target {e = f} p q) n k
     differ (ap F.is_name (some_same (Trees.Name x.form Store) t (ap single_stored (sym g) ∙ q)) ∙ n)) k b w
 
 pub group_annotated_goes : (profile : Profile) {ts us vs : List Terminal} {t a : Expr} {v : Option Expr} → G.SingleTarget ts t
-    → G.Derives Expression us a → F.Behind (Op Sign.Equal) Value vs v → (r : List Terminal) → Ends r
+    → G.Derives Expression us a → F.Following (Op Sign.Equal) Value vs v → (r : List Terminal) → Ends r
     → statement profile plain ((Op Sign.LPar ∷ (ts ++ (Op Sign.RPar ∷ (Op Sign.Colon ∷ (us ++ vs))))) ++ r) ≡ Found
     (AnnAssign t a v false) r
 group_annotated_goes profile {ts} {us} {vs} {t} (G.single_target {e = f} p q) k b r w = ap (λ z. statement profile plain (Op Sign.LPar ∷ z))

@@ -13,34 +13,34 @@ use Rattle.pygrammar.specs.declared.levels.Level.TheVariants.{BitOr, Not}
 use Rattle.pygrammar.specs.Operators.{left_operator, prefix_operator, comparison}
 use Rattle.pygrammar.specs.Constants.{constant_word}
 use Rattle.pygrammar.specs.PatternOperators.{singleton_word}
-use Rattle.pygrammar.specs.OpenStrings.{Open, open_behind, open_behind_all}
-use Rattle.pygrammar.proofs.Opened.Counts.{behind_append}
+use Rattle.pygrammar.specs.OpenStrings.{Open, open_following, open_after_all}
+use Rattle.pygrammar.proofs.Opened.Counts.{after_append}
 
 -- ---- Parts of a list.
 
--- behind the list is open what was open before it
+-- after the list is open what was open before it
 pub record Closes (ts : List Terminal) : Type 0 where
-  pub is : (o : Open) → open_behind_all o ts ≡ o
+  pub is : (o : Open) → open_after_all o ts ≡ o
 
 pub none : Closes []
 none = record { is = λ o. refl }
 
 pub same : {ts us : List Terminal} → Closes ts → us ≡ ts → Closes us
-same p e = record { is = λ o. ap (open_behind_all o) e ∙ p.is o }
+same p e = record { is = λ o. ap (open_after_all o) e ∙ p.is o }
 
 -- a list that may be passed over
-past : {ts : List Terminal} → Closes ts → (o : Open) (us : List Terminal) → open_behind_all o (ts ++ us) ≡ open_behind_all o us
-past {ts} p o us = behind_append o ts us ∙ ap (λ x. open_behind_all x us) (p.is o)
+past : {ts : List Terminal} → Closes ts → (o : Open) (us : List Terminal) → open_after_all o (ts ++ us) ≡ open_after_all o us
+past {ts} p o us = after_append o ts us ∙ ap (λ x. open_after_all x us) (p.is o)
 
 pub both : {ts us : List Terminal} → Closes ts → Closes us → Closes (ts ++ us)
 both {ts} {us} p q = record { is = λ o. past p o us ∙ q.is o }
 
 -- a terminal that neither opens nor closes anything
 abbrev pub IsQuiet : Terminal → Type 0
-IsQuiet t = (o : Open) → open_behind o t ≡ o
+IsQuiet t = (o : Open) → open_following o t ≡ o
 
 pub front : {t : Terminal} {ts : List Terminal} → IsQuiet t → Closes ts → Closes (t ∷ ts)
-front {t} {ts} h p = record { is = λ o. ap (λ x. open_behind_all x ts) (h o) ∙ p.is o }
+front {t} {ts} h p = record { is = λ o. ap (λ x. open_after_all x ts) (h o) ∙ p.is o }
 
 pub sign : {x : Exact} {ts : List Terminal} → Closes ts → Closes (Op x ∷ ts)
 sign p = record { is = p.is }
@@ -83,12 +83,12 @@ pub field : {c : Conversion} {ts us vs : List Terminal} → Closes ts → Closes
     → Closes (FieldBegin c ∷ (ts ++ (us ++ (FieldEnd ∷ vs))))
 field {c} {ts} {us} {vs} p q r = record { is = by }
   where
-    inside : (o : Open) → open_behind_all o (ts ++ (us ++ (FieldEnd ∷ vs))) ≡ open_behind_all o (FieldEnd ∷ vs)
+    inside : (o : Open) → open_after_all o (ts ++ (us ++ (FieldEnd ∷ vs))) ≡ open_after_all o (FieldEnd ∷ vs)
     inside o = past p o (us ++ (FieldEnd ∷ vs)) ∙ past q o (FieldEnd ∷ vs)
 
-    by : (o : Open) → open_behind_all o (FieldBegin c ∷ (ts ++ (us ++ (FieldEnd ∷ vs)))) ≡ o
+    by : (o : Open) → open_after_all o (FieldBegin c ∷ (ts ++ (us ++ (FieldEnd ∷ vs)))) ≡ o
     by [] = inside [] ∙ r.is []
-    by (n ∷ o) = inside (suc n ∷ o) ∙ (ap (λ m. open_behind_all (m ∷ o) vs) (one_less n) ∙ r.is (n ∷ o))
+    by (n ∷ o) = inside (suc n ∷ o) ∙ (ap (λ m. open_after_all (m ∷ o) vs) (one_less n) ∙ r.is (n ∷ o))
 
 -- ---- Tests that pass on quiet terminals alone.
 

@@ -12,7 +12,7 @@ use Rattle.pygrammar.specs.Forms as F
 use Rattle.pygrammar.proofs.Opened.Closing.{Closes, none, sign, word, ident, both, ended}
 use Rattle.pygrammar.proofs.Opened.Expressions.{closes, closes_listing, closes_target, closes_single_target, closes_del_target}
 use Rattle.pygrammar.proofs.Opened.Patterns.{closes_pattern}
-use Rattle.pygrammar.proofs.Opened.Parts.{closes_given, closes_behind, closes_as, closes_async, closes_name, closes_commas, closes_commas?}
+use Rattle.pygrammar.proofs.Opened.Parts.{closes_given, closes_after, closes_as, closes_async, closes_name, closes_commas, closes_commas?}
 use Rattle.pygrammar.proofs.Opened.Parts.{closes_type_params, closes_module, closes_module_alias, closes_dots, closes_names, closes_targets}
 use Rattle.pygrammar.proofs.Opened.Parts.{closes_items, closes_bases}
 
@@ -22,14 +22,14 @@ pub closes_simple : {profile : Profile} {ts : List Terminal} {s : Stmt} → F.Si
 closes_simple (F.value p) = closes p
 closes_simple (F.assign c p) = both (closes_targets c) (closes p)
 closes_simple (F.augmented_assign x c h p) = both (closes_single_target c) (sign (closes p))
-closes_simple (F.annotated_name p q) = ident (sign (both (closes p) (closes_behind (λ o. refl) q)))
-closes_simple (F.annotated_group c p q) = sign (both (closes_single_target c) (sign (sign (both (closes p) (closes_behind (λ o. refl) q)))))
-closes_simple (F.annotated_part c n p q) = both (closes_single_target c) (sign (both (closes p) (closes_behind (λ o. refl) q)))
+closes_simple (F.annotated_name p q) = ident (sign (both (closes p) (closes_after (λ o. refl) q)))
+closes_simple (F.annotated_group c p q) = sign (both (closes_single_target c) (sign (sign (both (closes p) (closes_after (λ o. refl) q)))))
+closes_simple (F.annotated_part c n p q) = both (closes_single_target c) (sign (both (closes p) (closes_after (λ o. refl) q)))
 closes_simple (F.type_alias h c p) = ident (ident (both (closes_type_params c) (sign (closes p))))
 closes_simple (F.return_of p) = word (closes_given p)
 closes_simple F.raise_alone = word none
-closes_simple (F.raise_of p q) = word (both (closes p) (closes_behind (λ o. refl) q))
-closes_simple (F.assert_of p q) = word (both (closes p) (closes_behind (λ o. refl) q))
+closes_simple (F.raise_of p q) = word (both (closes p) (closes_after (λ o. refl) q))
+closes_simple (F.assert_of p q) = word (both (closes p) (closes_after (λ o. refl) q))
 closes_simple (F.delete c) = word (closes_commas? Expr DelTarget (λ ts e p. closes_del_target p) c)
 closes_simple (F.global c) = word (closes_commas Identifier F.Name closes_name c)
 closes_simple (F.nonlocal c) = word (closes_commas Identifier F.Name closes_name c)
@@ -60,11 +60,11 @@ closes_header F.except_all = word none
 closes_header (F.except_line p a) = word (both (closes p) (closes_as a))
 closes_header (F.except_star p a) = word (sign (both (closes p) (closes_as a)))
 closes_header (F.def_line x y g c h r) =
-    both (closes_async y) (word (ident (both (closes_type_params g) (sign (both (closes_listing c) (sign (closes_behind (λ o. refl) r)))))))
+    both (closes_async y) (word (ident (both (closes_type_params g) (sign (both (closes_listing c) (sign (closes_after (λ o. refl) r)))))))
 closes_header (F.class_line g c) = word (ident (both (closes_type_params g) (closes_bases c)))
 
 pub closes_case : {ts : List Terminal} {h : Header} → F.CaseOf ts h → Closes ts
-closes_case (F.case_line form p g) = ident (both (closes_pattern p) (closes_behind (λ o. refl) g))
+closes_case (F.case_line form p g) = ident (both (closes_pattern p) (closes_after (λ o. refl) g))
 
 -- ---- Lines.
 

@@ -15,9 +15,9 @@ pub closes_given : {l : Level} {ts : List Terminal} {e : Option Expr} → F.Perh
 closes_given F.left_out = none
 closes_given (F.given p) = closes p
 
-pub closes_behind : {t : Terminal} {l : Level} {ts : List Terminal} {e : Option Expr} → IsQuiet t → F.Behind t l ts e → Closes ts
-closes_behind h F.none_behind = none
-closes_behind h (F.behind p) = front h (closes p)
+pub closes_after : {t : Terminal} {l : Level} {ts : List Terminal} {e : Option Expr} → IsQuiet t → F.Following t l ts e → Closes ts
+closes_after h F.none_after = none
+closes_after h (F.following p) = front h (closes p)
 
 pub closes_as : {ts : List Terminal} {x : Option Identifier} → F.As ts x → Closes ts
 closes_as F.no_as = none
@@ -43,7 +43,7 @@ module _ (A : Type 0) (X : List Terminal → A → Type 0) (each : (ts : List Te
 -- ---- Parameters of types.
 
 pub closes_type_param : (ts : List Terminal) (p : TypeParam) → F.TypeParamOf ts p → Closes ts
-closes_type_param ts p (F.type_var k) = ident (closes_behind (λ o. refl) k)
+closes_type_param ts p (F.type_var k) = ident (closes_after (λ o. refl) k)
 closes_type_param ts p F.type_var_tuple = sign (ident none)
 closes_type_param ts p F.param_spec = sign (ident none)
 

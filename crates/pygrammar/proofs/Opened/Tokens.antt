@@ -79,10 +79,10 @@ module _ (x : List ℕ → List Terminal) (inner : IsClosing x) where
 
     field_closes : (f : FieldParts S) → AreClosing x (field_elements elements f)
     field_closes f =
-        let behind = spec_elements elements f.spec in
-        joined (kept_elements f.kept) (Field f.conversion f.text ∷ (behind ++ End ∷ [])) (kept_closes f.kept)
+        let following = spec_elements elements f.spec in
+        joined (kept_elements f.kept) (Field f.conversion f.text ∷ (following ++ End ∷ [])) (kept_closes f.kept)
         (same (field (inner f.text) (spec_closes f.spec) none)
-        (ap (λ ts. FieldBegin f.conversion ∷ (x f.text ++ ts)) (flat_map-append (element_terminals x) behind (End ∷ []))))
+        (ap (λ ts. FieldBegin f.conversion ∷ (x f.text ++ ts)) (flat_map-append (element_terminals x) following (End ∷ []))))
 
     parts_close : (raw pairs : Bool) (ps : List (Part S)) → AreClosing x (flat_map (part_elements raw pairs elements) ps)
     parts_close raw pairs [] = none

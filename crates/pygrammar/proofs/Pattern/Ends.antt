@@ -28,7 +28,7 @@ use Rattle.pygrammar.proofs.Completeness.LookLemmas.{op_or_not, no_op, no_word}
 -- ---- What follows.
 
 -- The rank of the level at which a terminal carries on a pattern before it. A `=` makes a NAME that of an argument; what begins an entry
--- carries on a list, behind its comma.
+-- carries on a list, after its comma.
 abbrev pub pattern_grip : Terminal → ℕ
 pattern_grip (Op Dot) = 6
 pattern_grip (Op LPar) = 5

@@ -122,13 +122,13 @@ module _ (d e : ℕ) (le : d ≤ e) (self reader : Reads) (fields : AllKeep self
   k_class : (f : Expr) (r : List Terminal) → Keeps (class_arguments d self inner f r) (class_arguments e reader other f r)
   k_class f r = keeps_then _ _ _ _ (k_entries_of ClassArgument r) (λ es r1. inr refl)
 
-  k_behind_dots : (f : Expr) (r : List Terminal) → Keeps (dotted_pattern d self inner f r) (dotted_pattern e reader other f r)
-  k_behind_dots (Trees.Name x c) r = keeps_first (is_op LPar) r _ _ _ _ (λ _ r1. k_class (Trees.Name x c) r1) (inr refl)
-  k_behind_dots f r = keeps_first (is_op LPar) r _ _ _ _ (λ _ r1. k_class f r1) (inr refl)
+  k_after_dots : (f : Expr) (r : List Terminal) → Keeps (dotted_pattern d self inner f r) (dotted_pattern e reader other f r)
+  k_after_dots (Trees.Name x c) r = keeps_first (is_op LPar) r _ _ _ _ (λ _ r1. k_class (Trees.Name x c) r1) (inr refl)
+  k_after_dots f r = keeps_first (is_op LPar) r _ _ _ _ (λ _ r1. k_class f r1) (inr refl)
 
   k_name : (x : Identifier) (r : List Terminal) → Keeps (name_pattern d self inner x r) (name_pattern e reader other x r)
   k_name x r = keeps_cond (is_wildcard x) _ _ _ _ (inr refl) (keeps_then _ _ _ _ (k_dotted d e le (length r) (Trees.Name x Load) r)
-      (λ f r1. k_behind_dots f r1))
+      (λ f r1. k_after_dots f r1))
 
   k_value : (i : List Terminal) → Keeps (literal_pattern d self inner i) (literal_pattern e reader other i)
   k_value i = keeps_then _ _ (λ v r. Found (MatchValue v) r) (λ v r. Found (MatchValue v) r)

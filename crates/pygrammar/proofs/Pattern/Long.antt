@@ -228,18 +228,18 @@ module _ (d b : ℕ) (le : b ≤ d) (self : Reads) (good : GoodTo b self) (field
       (f_entries_of ClassArgument r w) (λ es u h. fits_first pattern_height n (is_op RPar) (heavy_op RPar) u _ NoForm
       (λ _ v q. fits_made pattern_height n (class_of f es) v (λ p z. omega (arith, a, c, h, q, entries_some es, class_low f es p z))) tt)
 
-  f_behind_dots : (n : ℕ) (f : Expr) (r : List Terminal) → weight r ≤ b → suc (height f) + weight r ≤ n
+  f_after_dots : (n : ℕ) (f : Expr) (r : List Terminal) → weight r ≤ b → suc (height f) + weight r ≤ n
       → Fits pattern_height n (dotted_pattern d self inner f r)
-  f_behind_dots n (Trees.Name x c) r w a = fits_first pattern_height n (is_op LPar) (heavy_op LPar) r _ _
+  f_after_dots n (Trees.Name x c) r w a = fits_first pattern_height n (is_op LPar) (heavy_op LPar) r _ _
       (λ _ u q. f_class n (Trees.Name x c) u (omega (arith, w, q)) (omega (arith, a, q)) (omega (arith, a, q))) (omega (arith, a))
-  f_behind_dots n f r w a = fits_first pattern_height n (is_op LPar) (heavy_op LPar) r _ _
+  f_after_dots n f r w a = fits_first pattern_height n (is_op LPar) (heavy_op LPar) r _ _
       (λ _ u q. f_class n f u (omega (arith, w, q)) (omega (arith, a, q)) (omega (arith, a, q))) (omega (arith, a))
 
   f_name : (x : Identifier) (r : List Terminal) → weight r < b → Fits pattern_height (suc (suc (weight r))) (name_pattern d self inner x r)
   f_name x r w = fits_cond pattern_height (suc (suc (weight r))) (is_wildcard x) _ _ (omega arith)
       (fits_then height pattern_height (suc (weight r)) (suc (suc (weight r))) (dotted_from d x r) _
       (f_dotted (suc (weight r)) d (length r) (Trees.Name x Load) r (omega (arith, w, le)) (omega arith))
-      (λ f u h. f_behind_dots (suc (suc (weight r))) f u (omega (arith, w, h)) (omega (arith, h))))
+      (λ f u h. f_after_dots (suc (suc (weight r))) f u (omega (arith, w, h)) (omega (arith, h))))
 
   f_value : (i : List Terminal) → weight i ≤ b → Fits pattern_height (suc (weight i)) (literal_pattern d self inner i)
   f_value i w = fits_then height pattern_height (weight i) (suc (weight i)) (literal_or self i NoForm) _

@@ -103,17 +103,17 @@ pub dotted_end : (d m : ℕ) (e : Expr) (r : List Terminal) → pattern_grip_of 
 dotted_end d zero e r h = refl
 dotted_end d (suc m) e r h = miss_sign Dot r _ _ (λ q. omega (arith, h, q))
 
--- a first NAME, and that the loop behind it comes to the expression
+-- a first NAME, and that the loop after it comes to the expression
 abbrev LoopReads : Identifier → List Terminal → Expr → Type 0
 LoopReads f us e = (d m : ℕ) (r : List Terminal) → height e ≤ d → length (us ++ r) ≤ m
     → (n : ℕ) × (length r ≤ n) × (dotted_loop d m (Trees.Name f Load) (us ++ r) ≡ dotted_loop d n e r)
 
 record BeginsDotted (f : Identifier) (ts : List Terminal) (e : Expr) : Type 0 where
   name : Spelled
-  behind : List Terminal
-  shape : ts ≡ Ident name ∷ behind
+  following : List Terminal
+  shape : ts ≡ Ident name ∷ following
   form : name.form ≡ f
-  reads : LoopReads f behind e
+  reads : LoopReads f following e
 
 loop_first : (f : Identifier) → LoopReads f [] (Trees.Name f Load)
 loop_first f d m r h w = (m, w, refl)
@@ -131,18 +131,18 @@ loop_dot f us e x k d m r h w =
     step (suc n) w = (n, omega (arith, w), dotted_more d n e x r h)
 
 dotted_begins : {f : Identifier} {ts : List Terminal} {e : Expr} → P.Dotted f ts e → BeginsDotted f ts e
-dotted_begins (P.first_name {x = x}) = record { name = x; behind = []; shape = refl; form = refl; reads = loop_first x.form }
+dotted_begins (P.first_name {x = x}) = record { name = x; following = []; shape = refl; form = refl; reads = loop_first x.form }
 dotted_begins (P.dot_name {f = f} {ts = ts} {e = e} x p) =
     let b = dotted_begins p in
     record {
       name = b.name;
-      behind = b.behind ++ (Op Dot ∷ (Ident x ∷ []));
+      following = b.following ++ (Op Dot ∷ (Ident x ∷ []));
       shape = ap (λ z. z ++ (Op Dot ∷ (Ident x ∷ []))) b.shape;
       form = b.form;
-      reads = loop_dot f b.behind e x b.reads;
+      reads = loop_dot f b.following e x b.reads;
     }
 
--- what a NAME and those behind its points give
+-- what a NAME and those after its points give
 abbrev pub NameReads : ℕ → List Terminal → Expr → List Terminal → Spelled → List Terminal → Type 0
 NameReads d i e r x us = (i ≡ Ident x ∷ us) × (dotted_from d x.form us ≡ Found e r)
 
@@ -150,7 +150,7 @@ dotted_reads : {f : Identifier} {ts : List Terminal} {e : Expr} → P.Dotted f t
     → pattern_grip_of r < 6 → (x : Spelled) × (us : List Terminal) × NameReads d (ts ++ r) e r x us × (x.form ≡ f)
 dotted_reads {f} {ts} {e} p d r h g =
     let b = dotted_begins p in
-    let us = b.behind ++ r in
+    let us = b.following ++ r in
     let c = b.reads d (length us) r h (omega arith) in
     (b.name, us, (ap (λ z. z ++ r) b.shape, ap (λ z. dotted_from d z us) b.form ∙ (c.2 ∙ dotted_end d c.0 e r g)), b.form)
 

@@ -59,7 +59,7 @@ try_plain : (star : Bool) (body : List Stmt) (hs : List Handler) (orelse final :
 try_plain false body hs orelse final = alone (plainness body && (are_handlers_plain (handlers hs) && (plainness orelse && plainness final)))
 try_plain true body hs orelse final = alone (plainness body && (are_handlers_plain (handlers hs) && (plainness orelse && plainness final)))
 
--- the parameters of types stand in front of the others in a line, and behind them in a tree
+-- the parameters of types stand in front of the others in a line, and after them in a tree
 function_plain : (d p a r b : Bool) → d && ((p && (a && r)) && b) ≡ (a && (b && (d && (r && p)))) && true
 function_plain d p a r b = simp (and_assoc, and_comm, and_swap)
 

@@ -63,10 +63,10 @@ plain_perhaps : {l : Level} {ts : List Terminal} {e : Option Expr} → F.Perhaps
 plain_perhaps F.left_out = none
 plain_perhaps (F.given p) = plain p
 
-plain_behind : {t : Terminal} {l : Level} {ts : List Terminal} {e : Option Expr} → is_terminal_plain t ≡ true → F.Behind t l ts e
+plain_after : {t : Terminal} {l : Level} {ts : List Terminal} {e : Option Expr} → is_terminal_plain t ≡ true → F.Following t l ts e
     → Plainness ts (is_perhaps_plain e)
-plain_behind h F.none_behind = none
-plain_behind h (F.behind p) = front h (plain p)
+plain_after h F.none_after = none
+plain_after h (F.following p) = front h (plain p)
 
 plain_as : {ts : List Terminal} {x : Option Identifier} → F.As ts x → Plainness ts true
 plain_as F.no_as = none
@@ -103,7 +103,7 @@ module _ (A : Type 0) (X : List Terminal → A → Type 0) (each : (ts : List Te
   no_constants? {as_ = as_} c = same (plain_commas? A X (λ _. true) each c) (all_true as_)
 
 plain_type_param : (ts : List Terminal) (p : TypeParam) → F.TypeParamOf ts p → Plainness ts (is_type_param_plain p)
-plain_type_param ts p (F.type_var k) = ident (plain_behind refl k)
+plain_type_param ts p (F.type_var k) = ident (plain_after refl k)
 plain_type_param ts p F.type_var_tuple = sign (ident none)
 plain_type_param ts p F.param_spec = sign (ident none)
 
@@ -149,14 +149,14 @@ plain_simple : {profile : Profile} {ts : List Terminal} {s : Stmt} → F.Simple 
 plain_simple (F.value p) = plain p
 plain_simple (F.assign c p) = both (plain_targets c) (plain p)
 plain_simple (F.augmented_assign x c h p) = both (plain_single_target c) (sign (plain p))
-plain_simple (F.annotated_name p q) = ident (sign (both (plain p) (plain_behind refl q)))
-plain_simple (F.annotated_group c p q) = sign (both (plain_single_target c) (sign (sign (both (plain p) (plain_behind refl q)))))
-plain_simple (F.annotated_part c n p q) = both (plain_single_target c) (sign (both (plain p) (plain_behind refl q)))
+plain_simple (F.annotated_name p q) = ident (sign (both (plain p) (plain_after refl q)))
+plain_simple (F.annotated_group c p q) = sign (both (plain_single_target c) (sign (sign (both (plain p) (plain_after refl q)))))
+plain_simple (F.annotated_part c n p q) = both (plain_single_target c) (sign (both (plain p) (plain_after refl q)))
 plain_simple (F.type_alias h c p) = ident (ident (both (plain_type_params c) (sign (plain p))))
 plain_simple (F.return_of p) = word (plain_perhaps p)
 plain_simple F.raise_alone = word none
-plain_simple (F.raise_of p q) = word (both (plain p) (plain_behind refl q))
-plain_simple (F.assert_of p q) = word (both (plain p) (plain_behind refl q))
+plain_simple (F.raise_of p q) = word (both (plain p) (plain_after refl q))
+plain_simple (F.assert_of p q) = word (both (plain p) (plain_after refl q))
 plain_simple (F.delete {es = es} c) = word (same (plain_commas? Expr DelTarget is_plain (λ ts e p. plain_del_target p) c) (listed_plain es))
 plain_simple (F.global c) = word (no_constants Identifier F.Name plain_name c)
 plain_simple (F.nonlocal c) = word (no_constants Identifier F.Name plain_name c)
@@ -211,7 +211,7 @@ plain_header (F.except_star {e = e} p a) = word (sign (same (both (plain p) (pla
 plain_header (F.def_line x {ps = ps} {a = a} y g c h r) =
     both (plain_async y)
     (word (ident (both (plain_type_params g)
-    (sign (both (same (plain_listing c) (arranged_plain ps a h)) (sign (plain_behind refl r)))))))
+    (sign (both (same (plain_listing c) (arranged_plain ps a h)) (sign (plain_after refl r)))))))
 plain_header (F.class_line g c) = word (ident (both (plain_type_params g) (plain_bases c)))
 
 plain_form : {version : Version} {ts : List Terminal} {f : Form} → F.FormOf (python version extents.Plain) ts f

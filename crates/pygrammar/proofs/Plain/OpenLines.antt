@@ -26,7 +26,7 @@ use Rattle.pylex_listing.specs.Listing.{Source, listing, origin, up_to_end, entr
 use Rattle.pylex_listing.specs.Listing.{begins_comment, last_line, ends_in_join, tail, stop, steps_from}
 use Rattle.pylex_listing.specs.Steps.{entries_of, fault_of, mark, fault_at}
 
--- whether a line is open behind an entry, where one is or isn't before it
+-- whether a line is open after an entry, where one is or isn't before it
 abbrev pub next : Kind → Bool → Bool
 next kinds.Comment begun = begun
 next kinds.Nl begun = begun
@@ -60,7 +60,7 @@ entries_fit (steps.Fault f ∷ ss) begun h k = absurd cc
 
 -- ---- Steps in front of others.
 
--- steps that stand behind a place, where an open line is a logical one
+-- steps that stand after a place, where an open line is a logical one
 abbrev Ahead : Bool → List Step → Type 0
 Ahead logical ts = (begun : Bool) → (begun ≡ true → logical ≡ true) → Fits begun ts
 

@@ -72,7 +72,7 @@ in_front : (e : Entry) (es : List Entry) (f : Arguments → Arguments) (o : Opti
 in_front e es f o k h a q = mapped_keeps f o a are_arguments_plain (are_entries_plain (e ∷ es)) (λ b r. k b r
     ∙ ap (λ z. is_entry_plain e && z) (h b r)) q
 
--- ---- Behind a star.
+-- ---- After a star.
 
 is_vararg_plain : Arguments → Bool
 is_vararg_plain (arguments ps qs v ks kds k ds) = is_optional_arg_plain v

@@ -39,7 +39,7 @@ same p e = record { is = p.is ∙ e }
 pub before : {A : Type 0} {test : A → Bool} {xs : List A} {a : Bool} (x : A) → Passes test xs a → Passes test (x ∷ xs) (test x && a)
 before {test = test} x p = record { is = ap (λ z. test x && z) p.is }
 
--- one part behind another
+-- one part after another
 pub both : {A : Type 0} {test : A → Bool} {xs ys : List A} {a b : Bool} → Passes test xs a → Passes test ys b
     → Passes test (xs ++ ys) (a && b)
 both {test = test} {xs = xs} {ys = ys} p q = record { is = list_all-append test xs ys ∙ and_both p.is q.is }

@@ -200,11 +200,11 @@ plain_entries text before (e ∷ es) h n =
     (entry_plain text (is_open before) e.kind e.exact e.start e.«end» e.«from» e.to parts.0 none.0)
     (plain_entries text (e ∷ before) es parts.1 none.1)
 
-abbrev refusal_behind : Option ListingFault → Option Refusal → Option Refusal
-refusal_behind o r = elim o [ Some f ↦ Some (refusals.Listing f) | None ↦ r ]
+abbrev refusal_after : Option ListingFault → Option Refusal → Option Refusal
+refusal_after o r = elim o [ Some f ↦ Some (refusals.Listing f) | None ↦ r ]
 
-as_refused : (o : Option ListingFault) (r q : Option Refusal) → (r ≡ None → q ≡ None) → refusal_behind o r ≡ None
-    → refusal_behind o q ≡ None
+as_refused : (o : Option ListingFault) (r q : Option Refusal) → (r ≡ None → q ≡ None) → refusal_after o r ≡ None
+    → refusal_after o q ≡ None
 as_refused (Some f) r q h k = absurd cc
 as_refused None r q h k = h k
 

@@ -84,7 +84,7 @@ beside_atom {R} K same inner other b equal all i w =
     subst (λ z. R Expr height 0 (weight i) (capped_atom same inner i) z) (plain_atom other i)
     (r_atom K same other inner other b equal all i w)
 
--- ---- The levels, for the plain and the capped reader: how each climbs, what it reads behind an Atom, and an Atom.
+-- ---- The levels, for the plain and the capped reader: how each climbs, what it reads after an Atom, and an Atom.
 abbrev Climbs : Type 0
 Climbs = ℕ → List Terminal → Answer Expr
 

@@ -346,14 +346,14 @@ module _ {R : Relation} (K : Kept R) (self other : Reads) (b : ℕ) (all : To R 
   r_suite profile t h (z ∷ r) g w = beside K (r_statements profile (suc (length (z ∷ r))) (z ∷ r) w)
       (λ v ss r1 k p. found K (omega (arith, g, k)) p)
 
-  -- behind the pattern of a case
-  pub r_behind_pattern : (profile : Profile) (t : ℕ) (m : Pattern) (r : List Terminal) → t ≤ suc (pattern_height m) → weight r < b
+  -- after the pattern of a case
+  pub r_after_pattern : (profile : Profile) (t : ℕ) (m : Pattern) (r : List Terminal) → t ≤ suc (pattern_height m) → weight r < b
       → R Form (under form_height) t b
       (and_then (after self (Word Key.If) Named r)
       (λ g r1. on_first (is_op Sign.Colon) r1 (λ _ u. suite profile self (case_header m g) u) NoForm))
       (and_then (after other (Word Key.If) Named r)
       (λ g r1. on_first (is_op Sign.Colon) r1 (λ _ u. suite profile other (case_header m g) u) NoForm))
-  r_behind_pattern profile t m r h w =
+  r_after_pattern profile t m r h w =
       beside K (r_after (Word Key.If) Named r w)
       (λ v g r1 k p. first K (is_op Sign.Colon) (heavy_op Sign.Colon) r1
       (λ _ u q. r_suite profile v (case_header m g) u (omega (arith, h, k)) (omega (arith, p, q))) (none K))
@@ -361,7 +361,7 @@ module _ {R : Relation} (K : Kept R) (self other : Reads) (b : ℕ) (all : To R 
   pub r_case_rest : (profile : Profile) (patterns others : PatternReads) (i : List Terminal)
       → R Pattern (under pattern_height) 0 b (patterns Patterns i) (others Patterns i)
       → R Form (under form_height) 0 b (case_rest profile self patterns i) (case_rest profile other others i)
-  r_case_rest profile patterns others i h = beside K h (λ v m u g p. r_behind_pattern profile v m u (omega (arith, g)) p)
+  r_case_rest profile patterns others i h = beside K h (λ v m u g p. r_after_pattern profile v m u (omega (arith, g)) p)
 
   pub r_case : (profile : Profile) (patterns others : PatternReads) (i : List Terminal)
       → ((r : List Terminal) → weight r ≤ weight i → R Pattern (under pattern_height) 0 b (patterns Patterns r) (others Patterns r))

@@ -16,7 +16,7 @@ use Rattle.pytoken.specs.Terminals.{Spelled, Terminal, Op, Word, Ident}
 use Rattle.pygrammar.specs.Looks.{is_op, is_word, name_in}
 use Rattle.pygrammar.specs.Reader.{Answer, Found, NoForm, TooDeep, and_then, on_some, on_first, made, Reads}
 use Rattle.pygrammar.specs.Operators.{rank}
-use Rattle.pygrammar.specs.Precedence.{infix_rank, behind}
+use Rattle.pygrammar.specs.Precedence.{infix_rank, following}
 use Rattle.pygrammar.specs.Grammar as G
 use Rattle.pygrammar.proofs.Completeness.LookLemmas.{op_or_not, word_or_not, heads, some_none}
 
@@ -94,7 +94,7 @@ says_found a r (found p) = p
 
 -- the rank of an operator that stands first
 abbrev pub turn : Terminal → ℕ
-turn t = on_some (behind t) infix_rank 0
+turn t = on_some (following t) infix_rank 0
 
 abbrev pub turn_of : List Terminal → ℕ
 turn_of [] = 0

@@ -26,7 +26,7 @@ use Rattle.pygrammar.specs.Looks.{is_word}
 use Rattle.pygrammar.specs.Operators.{below, chain_level, chain_word, comparison, left_operator, prefix_operator, rank}
 use Rattle.pygrammar.specs.Reader.{Answer, Found, and_then, on_some, on_first, Reads, chain_loop, on_comparison, compare_loop, operation}
 use Rattle.pygrammar.specs.Reader.{climb_loop, prefixed, climb}
-use Rattle.pygrammar.specs.Precedence.{Infix, Left, Raise, Joins, Compares, Prefix, Signed, Awaits, infix_rank, behind, prefix_rank, before}
+use Rattle.pygrammar.specs.Precedence.{Infix, Left, Raise, Joins, Compares, Prefix, Signed, Awaits, infix_rank, following, prefix_rank, before}
 use Rattle.pygrammar.specs.Precedence.{at_least, infix_from, prefix_from}
 use Rattle.pygrammar.specs.Grammar as G
 use Rattle.std.proofs.lemmas.Bool.{leb-true, le-leb}
@@ -217,7 +217,7 @@ same_left P l n o p h q = subst (λ z. P z p) (one l n o p q) (subst (λ z. P l 
     two : (l n : Level) (o p : Operator) → ◌≡◌ {A = Option Infix} (Some (Left l o)) (Some (Left n p)) → o ≡ p
     two l n o p q = cc
 
-left_facts : (t : Terminal) (l : Level) (o : Operator) → behind t ≡ Some (Left l o) → LeftFacts t l o
+left_facts : (t : Terminal) (l : Level) (o : Operator) → following t ≡ Some (Left l o) → LeftFacts t l o
 left_facts (Op VBar) l o h = same_left (LeftFacts (Op VBar)) BitOr l Bin.BitOr o (refl, refl, refl, omega arith, omega arith) h
 left_facts (Op Circumflex) l o h = same_left (LeftFacts (Op Circumflex)) BitXor l Bin.BitXor o (
   refl,
@@ -247,7 +247,7 @@ left_facts (Word Key.As) l o h = absurd (cc)
 left_facts (Word _) l o h = absurd (cc)
 left_facts _ l o h = absurd (cc)
 
-pub raise_is : (t : Terminal) → behind t ≡ Some Raise → t ≡ Op DoubleStar
+pub raise_is : (t : Terminal) → following t ≡ Some Raise → t ≡ Op DoubleStar
 raise_is (Op DoubleStar) h = refl
 raise_is (Op _) h = absurd (cc)
 raise_is (Word Key.As) h = absurd (cc)
@@ -272,7 +272,7 @@ two ts us r t = sym (append_assoc ts (t ∷ us) r)
 
 module _ (self : Reads) (all : SoundAt self) where
   pub operation_sound : (k : ℕ) (c : Level) (i ts : List Terminal) (e : Expr) (o : Infix) (t : Terminal) (r1 : List Terminal)
-      → i ≡ ts ++ (t ∷ r1) → G.Derives c ts e → rank c ≤ 22 → 10 ≤ k → k ≤ infix_rank o → infix_rank o ≤ lim c → behind t ≡ Some o
+      → i ≡ ts ++ (t ∷ r1) → G.Derives c ts e → rank c ≤ 22 → 10 ≤ k → k ≤ infix_rank o → infix_rank o ≤ lim c → following t ≡ Some o
       → Says (λ f r2. Stands k i f r2 × (length r2 ≤ length r1)) (operation self e o (t ∷ r1) r1)
   operation_sound k c i ts e (Left l o) t r1 q p h a b w f =
       let z = left_facts t l o f in
@@ -426,9 +426,9 @@ module _ (self : Reads) (all : SoundAt self) where
       → ((f : Expr) (r2 : List Terminal) → length r2 ≤ length s → Stands k i f r2 → Says (λ f r2. Stands k i f r2 × (turn_of r2 < k))
       (climb_loop self k m f r2)) → (x : Option Infix) → infix_from k t ≡ x → Says (λ f r2. Stands k i f r2 × (turn_of r2 < k))
       (on_some x (λ o. and_then (operation self e o (t ∷ s) s) (λ f r2. climb_loop self k m f r2)) (Found e (t ∷ s)))
-  step_sound k m i e t s a p rec None q = found (p, infix_miss k (behind t) q (omega (arith, a)))
+  step_sound k m i e t s a p rec None q = found (p, infix_miss k (following t) q (omega (arith, a)))
   step_sound k m i e t s a p rec (Some o) q =
-      let h = infix_hit k (behind t) o q in
+      let h = infix_hit k (following t) o q in
       says_then _ _ (operation_sound self all k p.0 i p.1 e o t s p.2 p.3 p.5 a h.1
       (omega (arith, p.6, ap (λ o. on_some o infix_rank 0) h.0)) h.0) (λ f r2 v. rec f r2 v.1 v.0)
 

@@ -89,9 +89,9 @@ abbrev FieldAt : Bool → Conversion → List Terminal → Expr → List Termina
 FieldAt u c r e r1 = (ts : List Terminal) × (r ≡ ts ++ r1) × ((vs : List Terminal) (ps : List StringPart) → G.Formatted u vs ps
     → G.Formatted u (FieldBegin c ∷ (ts ++ vs)) (Field e ∷ ps))
 
--- the rest of a run after the beginning of its first f-string, behind some texts
-abbrev JoinedBehind : Bool → List StringPart → List Terminal → Expr → List Terminal → Type 0
-JoinedBehind u acc r e r1 = (ts : List Terminal) × (qs : List StringPart) × (r ≡ ts ++ r1) ×
+-- the rest of a run after the beginning of its first f-string, after some texts
+abbrev JoinedAfter : Bool → List StringPart → List Terminal → Expr → List Terminal → Type 0
+JoinedAfter u acc r e r1 = (ts : List Terminal) × (qs : List StringPart) × (r ≡ ts ++ r1) ×
     (e ≡ Trees.JoinedStr (values_of u (merged (acc ++ qs)))) × G.Literals u (FormattedBegin ∷ ts) qs
 
 -- an Atom in front of a list that begins with a bracket begins with it
@@ -187,8 +187,8 @@ module _ (self : Reads) (all : SoundAt self) where
       ))))
       (found ([], [], refl, sym (append-nil acc), G.no_literal)))
 
-  behind_sound : (u : Bool) (acc : List StringPart) (r : List Terminal) → Says (JoinedBehind u acc r) (joined_step self u acc r)
-  behind_sound u acc r =
+  following_sound : (u : Bool) (acc : List StringPart) (r : List Terminal) → Says (JoinedAfter u acc r) (joined_step self u acc r)
+  following_sound u acc r =
       says_then _ _ (formatted_sound u acc r) (λ ps r1 p. says_then _ _ (loop_sound u (length r1) ps r1) (λ qs r2 y. found (
         p.0 ++ (FormattedEnd ∷ y.0),
         p.1 ++ y.1,
@@ -211,9 +211,9 @@ prefixed u (Values.Str t k ∷ vs) ps h ts qs l = go (texts_of vs) refl h (λ xs
         (same_Some (Text t ∷ xs) ps q) (G.text_literal (f xs e))
 prefixed u (_ ∷ vs) ps h ts qs l = absurd (cc)
 
-formatted_behind : (vs : List Values.Value) (ts : List Terminal) → has_formatted (map Literal vs ++ (FormattedBegin ∷ ts)) ≡ true
-formatted_behind [] ts = refl
-formatted_behind (v ∷ vs) ts = formatted_behind vs ts
+formatted_after : (vs : List Values.Value) (ts : List Terminal) → has_formatted (map Literal vs ++ (FormattedBegin ∷ ts)) ≡ true
+formatted_after [] ts = refl
+formatted_after (v ∷ vs) ts = formatted_after vs ts
 
 -- ---- The two kinds of runs.
 
@@ -232,7 +232,7 @@ FitsAt P i e r = (ts : List Terminal) × (i ≡ ts ++ r) × P ts e
 
 module _ (self : Reads) (all : SoundAt self) (P : List Terminal → Expr → Type 0) (formatted : JoinedFits P) where
   pub joined_sound : (r : List Terminal) → Says (FitsAt P (FormattedBegin ∷ r)) (joined_step self false [] r)
-  joined_sound r = says_is _ (behind_sound self all false [] r) (λ e r1 p. (
+  joined_sound r = says_is _ (following_sound self all false [] r) (λ e r1 p. (
     FormattedBegin ∷ p.0,
     ap (λ z. FormattedBegin ∷ z) p.2,
     subst (λ z. P (FormattedBegin ∷ p.0) z) (sym p.3) (formatted false (FormattedBegin ∷ p.0) p.1 p.4 refl refl),
@@ -241,12 +241,12 @@ module _ (self : Reads) (all : SoundAt self) (P : List Terminal → Expr → Typ
   pub literals_sound : StringsFit P → (v : Values.Value) (r : List Terminal) → Says (FitsAt P (Literal v ∷ r)) (literals self v r)
   literals_sound plain v r = says_then _ _ (string_sound [] r) (λ ws r1 p.
       says_mark is_formatted_begin FormattedBegin begin_is r1 _ _
-      (λ a s q. says_some (texts_of (v ∷ ws)) _ _ (λ ps h. says_is _ (behind_sound self all (kind_of v) ps s) (λ e r2 y. (
+      (λ a s q. says_some (texts_of (v ∷ ws)) _ _ (λ ps h. says_is _ (following_sound self all (kind_of v) ps s) (λ e r2 y. (
         Literal v ∷ (map Literal ws ++ (FormattedBegin ∷ y.0)),
         shape ws p.0 r1 s r2 y.0 p.1 p.2 q y.2,
         subst (λ z. P (Literal v ∷ (map Literal ws ++ (FormattedBegin ∷ y.0))) z) (sym y.3)
             (formatted (kind_of v) (Literal v ∷ (map Literal ws ++ (FormattedBegin ∷ y.0))) (ps ++ y.1)
-            (prefixed (kind_of v) (v ∷ ws) ps h (FormattedBegin ∷ y.0) y.1 y.4) refl (formatted_behind ws y.0)),
+            (prefixed (kind_of v) (v ∷ ws) ps h (FormattedBegin ∷ y.0) y.1 y.4) refl (formatted_after ws y.0)),
       ))) no_form)
       (says_made _ r1 (λ e h.
       let z = constant_is (joined v ws) e h in (

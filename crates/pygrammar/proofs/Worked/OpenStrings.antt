@@ -1,11 +1,11 @@
--- Worked counts of tokens, and what is open behind some terminals.
+-- Worked counts of tokens, and what is open after some terminals.
 --
 -- Carries: no contract; its rows are computed as it is checked.
 use Rattle.std.proofs.Common.{◌≡◌, refl, List, [], ◌∷◌, ◌++◌}
 use Rattle.pylex_lexeme.specs.declared.kinds.Exact.TheVariants.{Comma, LPar, RPar}
 use Rattle.pyfstring.specs.declared.parts.Conversion.TheVariants as By
 use Rattle.pytoken.specs.Terminals.{Terminal, Op, in_form, FormattedBegin, FormattedEnd, FormattedText, FieldBegin, SpecBegin, FieldEnd}
-use Rattle.pygrammar.specs.OpenStrings.{open_behind_all, token_count}
+use Rattle.pygrammar.specs.OpenStrings.{open_after_all, token_count}
 
 abbrev x : Terminal
 x = in_form (120 ∷ [])
@@ -46,12 +46,12 @@ worked_4 : token_count (FormattedBegin ∷ (with_spec ++ (FormattedEnd ∷ empty
 worked_4 = refl
 
 -- f'{x:a{f"
-worked_5 : open_behind_all [] (FormattedBegin ∷ FieldBegin By.None ∷ Op LPar ∷ x ∷ Op RPar ∷ SpecBegin ∷ text ∷ begun) ≡ 0 ∷ 2 ∷ []
+worked_5 : open_after_all [] (FormattedBegin ∷ FieldBegin By.None ∷ Op LPar ∷ x ∷ Op RPar ∷ SpecBegin ∷ text ∷ begun) ≡ 0 ∷ 2 ∷ []
 worked_5 = refl
 
 -- f'{x:a{x}} and then its end
-worked_6 : open_behind_all [] (FormattedBegin ∷ with_spec) ≡ 0 ∷ []
+worked_6 : open_after_all [] (FormattedBegin ∷ with_spec) ≡ 0 ∷ []
 worked_6 = refl
 
-worked_7 : open_behind_all [] (FormattedBegin ∷ (with_spec ++ (FormattedEnd ∷ []))) ≡ []
+worked_7 : open_after_all [] (FormattedBegin ∷ (with_spec ++ (FormattedEnd ∷ []))) ≡ []
 worked_7 = refl

@@ -27,12 +27,12 @@ abbrev pub HasRead : Option (Bor (List ℕ)) → List ℕ → Type 0
 HasRead None levels = 0 < length levels
 HasRead (Some text) levels = Unit {0}
 
--- a level that stands behind these among levels
+-- a level that stands after these among levels
 pub record Follows (sofar : List ℕ) (n : ℕ) : Type 0 where
   pub first : length sofar ≡ 0 → n ≡ 0
   pub above : 0 < length sofar → get_or sofar (length sofar - 1) 0 < n
 
--- the next of the levels that are read, and what stands behind it
+-- the next of the levels that are read, and what stands after it
 pub record Next (t sofar ns : List ℕ) : Type 0 where
   pub level : ℕ
   pub rest : List ℕ
@@ -88,11 +88,11 @@ next_level o t sofar ns is are found =
     let joined : (0 < length found.0) × (with_commas found.0 ≡ t.now) = subst J is found.2 in
     next_of t.now sofar ns found.0 are found.1 joined.0 joined.1
 
--- what is read behind the next level
-pub joined_behind : (back : Option (Bor (List ℕ))) (rest : List ℕ)
+-- what is read after the next level
+pub joined_after : (back : Option (Bor (List ℕ))) (rest : List ℕ)
     → MatchOption back (rest ≡ []) (λ b. (0 < length rest) × (b.now ≡ with_commas rest)) → IsJoined back rest
-joined_behind None rest h = h
-joined_behind (Some b) rest h = (h.0, sym h.1)
+joined_after None rest h = h
+joined_after (Some b) rest h = (h.0, sym h.1)
 
 pub one_more : (sofar ns rest : List ℕ) (n : ℕ) → ns ≡ sofar ++ n ∷ rest → ns ≡ sofar ++ n ∷ [] ++ rest
 one_more sofar ns rest n whole = whole ∙ sym (append_assoc sofar (n ∷ []) rest)

@@ -1,4 +1,4 @@
--- Further lines behind a text.
+-- Further lines after a text.
 --
 -- Carries: lengthen, add_lines. On: Reading.
 use Rattle.std.proofs.Common.{◌≡◌, ◌⊎◌, inl, inr, ⊎_elim, ℕ, ◌<◌, ◌≤◌, true, List, [], ◌++◌, length, drop, refl, ap, sym, ◌∙◌, subst}
@@ -16,9 +16,9 @@ use Rattle.pysource.specs.Streams.{Buffered, Follows, Gives, ComesOnly, NextLine
 use Rattle.pysource.proofs.Callers.Taken.{ReadsBytes-none, ReadsBytes-on}
 use Rattle.pylex.specs.declared.held_lines.HeldLines.{HeldLines}
 use Rattle.pylex.specs.Inner.Chunked.{AddsOn, IsLonger, ReadsOn}
-use Rattle.pylex.proofs.LineByLine.Reading.{ends_behind}
+use Rattle.pylex.proofs.LineByLine.Reading.{ends_following}
 
--- what comes behind two lines comes behind both
+-- what comes after two lines comes after both
 gives_both : (a b c : Buffered) (t u l m : List ℕ) → Gives a t l b → Gives b u m c → Gives a (t ++ u) (l ++ m) c
 gives_both a b c t u l m p q = λ more broken f.
     let s = q more broken f in
@@ -59,7 +59,7 @@ module _ (x y z : Seen) (a b c : Buffered) (text_a text_b text_c : List ℕ) (p 
     gives = gives_both a b c p.taken r.taken p.added r.line p.gives r.gives;
     text = r.chunk ∙ ap (λ t. t ++ r.line) p.text ∙ append_assoc text_a p.added r.line;
     utf8 = IsUtf8-append p.added r.line p.utf8 r.tells.0.utf8;
-    ends = inr (⊎_elim (λ l. inl (ends_behind p.added r.line l)) (λ o. inr o) r.tells.1);
+    ends = inr (⊎_elim (λ l. inl (ends_following p.added r.line l)) (λ o. inr o) r.tells.1);
     same = r.same ∙ p.same;
     sizes = let s = p.sizes in let t = r.sizes in let u = length-append p.added r.line in let v =
         length-append p.taken r.taken in omega arith;
@@ -86,7 +86,7 @@ module _ (x y z : Seen) (a b c : Buffered) (text_a text_b text_c : List ℕ) (p 
         within = within;
       }
 
--- The lines behind one that was read are part of what was read on.
+-- The lines after one that was read are part of what was read on.
 pub reads_more : (x y z : Seen) (old mid new : HeldLines) (at : ℕ) → ReadsOn x y old mid at (Ok met.Text)
     → AddsOn y z mid.lines new.lines (string_bytes mid.text) (string_bytes new.text)
     → string_bytes new.spare ≡ string_bytes mid.spare → new.base ≡ mid.base → new.at ≡ mid.at → ReadsOn x z old new at (Ok met.Text)
@@ -112,7 +112,7 @@ reads_more x y z old mid new at r p spare base place =
             ∙ append_assoc r.holding.gone (string_bytes mid.text) p.added ∙ ap (λ t. r.holding.gone ++ t) (sym p.text);
         base = base ∙ r.holding.base;
         looked = r.holding.looked;
-        behind = r.holding.behind;
+        following = r.holding.following;
         left = ap (λ a. drop a (string_bytes new.text)) place ∙ ap (drop mid.at) p.text
             ∙ drop-append-le mid.at (string_bytes mid.text) p.added fits ∙ ap (λ t. t ++ p.added) r.holding.left
             ∙ append_assoc (drop at (string_bytes old.text)) r.line p.added;
@@ -123,7 +123,7 @@ reads_more x y z old mid new at r p spare base place =
     some = let a = r.adds.0 in let u = length-append r.line p.added in omega arith
 
     ends : (ends_line (r.line ++ p.added) ≡ true) ⊎ ComesOnly new.lines None
-    ends = ⊎_elim (λ e. by_none e r.adds.2) (λ o. ⊎_elim (λ l. inl (ends_behind r.line p.added l)) (λ c. inr c) o) p.ends
+    ends = ⊎_elim (λ e. by_none e r.adds.2) (λ o. ⊎_elim (λ l. inl (ends_following r.line p.added l)) (λ c. inr c) o) p.ends
       where
         by_none : p.added ≡ [] → (ends_line r.line ≡ true) ⊎ ComesOnly mid.lines None
             → (ends_line (r.line ++ p.added) ≡ true) ⊎ ComesOnly new.lines None

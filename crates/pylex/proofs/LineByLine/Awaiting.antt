@@ -1,6 +1,6 @@
 -- Where a lister has to read a line, and where it has not.
 --
--- Carries: line_lister::find, line_lister::pass, pass_on, LineLister::next, next_behind. On:
+-- Carries: line_lister::find, line_lister::pass, pass_on, LineLister::next, next_after. On:
 -- Streaming, LexedOn.
 use Rattle.std.proofs.Common.{◌≡◌, ◌⊎◌, inl, inr, ⊎_elim, ℕ, zero, suc, ◌+◌, ◌<◌, Bool, true, false, ◌&&◌, ◌==◌, ◌||◌, List, [], ◌∷◌, ◌++◌}
 use Rattle.std.proofs.Common.{length, take, drop, refl, ap, sym, ◌∙◌, subst, arith, Option, Some, None, string_bytes}
@@ -83,7 +83,7 @@ stop_no_fault t u ds es n m s cs a b none settled faults (level k r bs margin so
 -- Where a line has to be read no fault is met,
 pub awaits_no_fault : (v : Streamed) (f : ListingFault) → AwaitsLine v → FaultAhead (take v.nested v.levels) v.now (chars v.left) f → ⊥
 awaits_no_fault v f a h =
-    stop_no_fault (with_levels a.there (0 ∷ take v.nested v.levels)) (with_levels h.there (0 ∷ take v.nested v.levels)) a.behind h.before 0
+    stop_no_fault (with_levels a.there (0 ∷ take v.nested v.levels)) (with_levels h.there (0 ∷ take v.nested v.levels)) a.following h.before 0
     0 (with_levels v.now (0 ∷ take v.nested v.levels)) (chars v.left) refl refl a.stop.none a.stop.settled
     (faults_of (take v.nested v.levels) h.there h.before f h.cause) a.passes.walks h.comes.walks
 
@@ -91,15 +91,15 @@ awaits_no_fault v f a h =
 pub awaits_no_stop : (v : Streamed) (q : LineState) (rest : List ℕ) → AwaitsLine v → Comes (take v.nested v.levels) v.now (chars v.left) q
     (chars rest) → StopAhead q (chars rest) → IsUtf8 rest → lacks rest ≡ false → ⊥
 awaits_no_stop v q rest a passes stop u whole =
-    let here : left_by_cut (chars v.left) ≡ a.behind =
-    left_lexed a.behind (chars v.left) (lexed_comes (take v.nested v.levels) v.now (chars v.left) a.there a.behind a.passes)
-    ∙ left_stop a.behind a.stop.none in
+    let here : left_by_cut (chars v.left) ≡ a.following =
+    left_lexed a.following (chars v.left) (lexed_comes (take v.nested v.levels) v.now (chars v.left) a.there a.following a.passes)
+    ∙ left_stop a.following a.stop.none in
     let there : left_by_cut (chars v.left) ≡ chars rest =
     left_lexed (chars rest) (chars v.left) (lexed_comes (take v.nested v.levels) v.now (chars v.left) q (chars rest) passes)
     ∙ left_stop (chars rest) stop.none in
-    let same : a.behind ≡ chars rest = sym here ∙ there in
+    let same : a.following ≡ chars rest = sym here ∙ there in
     let more = not_lacking rest u whole in
-    ⊎_elim (λ e. more.0 (sym same ∙ e)) (λ (o : is_open_string a.behind ≡ true). let f : true ≡ false = sym o
+    ⊎_elim (λ e. more.0 (sym same ∙ e)) (λ (o : is_open_string a.following ≡ true). let f : true ≡ false = sym o
     ∙ ap is_open_string same ∙ more.1 in cc) a.lacks
 
 -- The entry given last plays no part in it.
@@ -107,7 +107,7 @@ pub awaits_last : (p : Machine) (c : HeldLines) (last : Option Entry) → Awaits
 awaits_last p c last a = record {
   begun = a.begun;
   there = a.there;
-  behind = a.behind;
+  following = a.following;
   passes = a.passes;
   stop = a.stop;
   lacks =
@@ -123,7 +123,7 @@ awaits_found p c f looks is lack given line =
     record {
       begun = given;
       there = f.now;
-      behind = chars (drop f.at (string_bytes c.text));
+      following = chars (drop f.at (string_bytes c.text));
       passes = g.0;
       stop = g.1;
       lacks = by (drop f.at (string_bytes c.text)) lack;
@@ -164,7 +164,7 @@ no_indent (steps.Entry e) none i = none
 no_indent steps.End none i = i
 no_indent (steps.Fault f) none i = i
 
--- Behind the end or a fault memory is never refused.
+-- After the end or a fault memory is never refused.
 pub never_refused : (seen_0 seen_1 seen_2 : Seen) (u v w : Streamed) (step : Step) (e : AllocError) → IsNoEntry step
     → (t : Next seen_0 seen_1 u v (Ok step)) → (n : Next seen_1 seen_2 v w (Err e)) → (p : Parts) (k : ℕ) (more : List ℕ) (broken : Bool)
     → Continues w.lines more broken → StreamsIn u p k (t.taken ++ (n.taken ++ more)) broken → ⊥

@@ -27,7 +27,7 @@ use Rattle.pylex_listing.proofs.Callers.{none_at_all}
 use Rattle.pylex.proofs.Listers.Finding.{no_significant}
 use Rattle.pylex_lexeme.proofs.Callers.WholeLines.{lexeme_kept, len_kept, none_kept, open_kept, opens_kept, significant_kept, len_within}
 
--- Behind a front of whole lines are whole lines, or nothing.
+-- After a front of whole lines are whole lines, or nothing.
 line_left : (c : ℕ) (cs front : List ℕ) → c ∷ cs ≡ front ++ 10 ∷ [] → EndsLine cs ⊎ (cs ≡ [])
 line_left c cs [] e = inr cc
 line_left c cs (d ∷ front) e = inl (front, cc)
@@ -45,7 +45,7 @@ pub drop_ends : (cs : List ℕ) (x : Lexeme) → EndsLine cs → lexeme_at cs �
     → (drop (lexeme_len cs) cs ≡ []) ⊎ EndsLine (drop (lexeme_len cs) cs)
 drop_ends cs x l e = ⊎_elim (λ m. inr m) (λ z. inl z) (lines_left (lexeme_len cs) cs (inl l))
 
--- and what is behind a lexeme goes on in the same way
+-- and what is after a lexeme goes on in the same way
 pub drop_carried : (cs es : List ℕ) (x : Lexeme) → EndsLine cs → lexeme_at cs ≡ Some x
     → drop (lexeme_len (cs ++ es)) (cs ++ es) ≡ drop (lexeme_len cs) cs ++ es
 drop_carried cs es x l e = ap (λ n. drop n (cs ++ es)) (len_kept cs es x l e) ∙ drop-append-le (lexeme_len cs) cs es (len_within cs)
@@ -124,7 +124,7 @@ entry_carried levels p cs e q ds es h f =
       settled = settled_kept f.there.margin f.before es l f.settled;
       stands = lexeme_kept f.before es f.lexeme l f.stands;
       own = f.own;
-      behind = ap (λ t. t ++ es) f.behind ∙ sym (drop_carried f.before es f.lexeme l f.stands);
+      following = ap (λ t. t ++ es) f.following ∙ sym (drop_carried f.before es f.lexeme l f.stands);
       goes = f.goes;
     }
 

@@ -47,7 +47,7 @@ holding_other old new from line met.Read h s = s
 pub same_text : (old new line : List ℕ) → new ≡ old ++ line → line ≡ [] → new ≡ old
 same_text old new line e none = e ∙ ap (λ l. old ++ l) none ∙ append-nil old
 
--- a text behind which a line was added
+-- a text after which a line was added
 pub left_longer : (at : ℕ) (old new line : List ℕ) → at ≤ length old → new ≡ old ++ line → drop at new ≡ drop at old ++ line
 left_longer at old new line h e = ap (drop at) e ∙ drop-append-le at old line h
 
@@ -68,7 +68,7 @@ reads_on seen_old seen_new old new chunk_old chunk_new from r m within chunk hol
   holding = holding;
 }
 
--- nothing is behind all of a text
+-- nothing is after all of a text
 pub drop_all : (xs : List ℕ) → drop (length xs) xs ≡ []
 drop_all [] = refl
 drop_all (x ∷ xs) = drop_all xs

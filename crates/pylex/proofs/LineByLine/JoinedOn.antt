@@ -25,10 +25,10 @@ use Rattle.pylex_lexeme.specs.Chunks.{EndsLine}
 use Rattle.pylex.specs.Inner.Chunked.{AddsLine, IsLineMore, HoldsOn}
 use Rattle.pylex_lexeme.specs.Lexemes.{lexeme_at, left_by_cut, is_open_string}
 use Rattle.pylex_lexeme.specs.OpenLiterals.{IsOpenBy}
-use Rattle.pylex.specs.Held.{AheadBut, IsJoined, LexedTo, at_left, IsAtStop, Holds, IsOpenAt, LinesBehind, Joins}
+use Rattle.pylex.specs.Held.{AheadBut, IsJoined, LexedTo, at_left, IsAtStop, Holds, IsOpenAt, LinesAfter, Joins}
 use Rattle.pylex.proofs.LineByLine.HeldLinesLemmas.{line_some}
 use Rattle.pylex.proofs.LineByLine.Lined.{lined_chars, lined_or_last}
-use Rattle.pylex.proofs.LineByLine.Reading.{ends_behind}
+use Rattle.pylex.proofs.LineByLine.Reading.{ends_following}
 use Rattle.pylex.proofs.LineByLine.Searching.{some_future}
 use Rattle.pylex.proofs.MachineLaws.Steps.{left_stop}
 use Rattle.pylex.proofs.LineByLine.LexedOn.{lexed_on, left_lexed, joined_more}
@@ -51,7 +51,7 @@ lines_at : (o : OpenLiteral) (at : ℕ) (front : List ℕ) → ends_line front �
 lines_at o at front feed i = ⊎_elim (λ l. l) (λ e. absurd (not_nothing o (chars (drop at front)) i.opened e))
     (lined_or_last front (take at front) (drop at front) (sym (take-append-drop at front)) i.left feed)
 
--- A literal that goes on is open behind the next line.
+-- A literal that goes on is open after the next line.
 pub open_on : (o : OpenLiteral) (at : ℕ) (front line : List ℕ) → IsUtf8 front → IsUtf8 line → ends_line front ≡ true → IsOpenAt o at front
     → GoesOn o line → IsOpenAt o at (front ++ line)
 open_on o at front line u v feed i goes =
@@ -88,19 +88,19 @@ comes_some b c r within only =
     no_text (u ∷ line) h e = cc
 
 module _ (x y : Seen) (o : OpenLiteral) (at from : ℕ) (a b c : Buffered) (text_b text_c : List ℕ)
-    (l : LinesBehind o at from a b text_b) where
-  -- the literal is open behind the last line too
-  open_behind : GoesOn o (drop from text_b) → IsOpenAt o at text_b
-  open_behind goes =
+    (l : LinesAfter o at from a b text_b) where
+  -- the literal is open after the last line too
+  open_following : GoesOn o (drop from text_b) → IsOpenAt o at text_b
+  open_following goes =
       let line : drop from text_b ≡ l.line = ap (λ n. drop n text_b) (sym l.starts) ∙ ap (drop (length l.front)) l.whole
       ∙ drop-append_seam l.front l.line in
       subst (IsOpenAt o at) (sym l.whole) (open_on o at l.front l.line l.utf8 l.line_utf8 l.feed l.opened (subst (GoesOn o) line goes))
 
   -- One line more.
-  pub behind_line : GoesOn o (drop from text_b) → (r : NextLine x y b c text_b text_c (Ok met.Text)) → c.count ≤ source_limit
-      → LinesBehind o at (length text_b) a c text_c
-  behind_line goes r within =
-      let open_at = open_behind goes in
+  pub after_line : GoesOn o (drop from text_b) → (r : NextLine x y b c text_b text_c (Ok met.Text)) → c.count ≤ source_limit
+      → LinesAfter o at (length text_b) a c text_c
+  after_line goes r within =
+      let open_at = open_following goes in
       record {
         front = text_b;
         line = r.line;
@@ -108,7 +108,7 @@ module _ (x y : Seen) (o : OpenLiteral) (at from : ℕ) (a b c : Buffered) (text
         starts = refl;
         utf8 = subst IsUtf8 (sym l.whole) (IsUtf8-append l.front l.line l.utf8 l.line_utf8);
         line_utf8 = r.tells.0.utf8;
-        feed = ⊎_elim (λ e. ap ends_line l.whole ∙ ends_behind l.front l.line e) (λ only. absurd (comes_some b c r within only)) l.ends;
+        feed = ⊎_elim (λ e. ap ends_line l.whole ∙ ends_following l.front l.line e) (λ only. absurd (comes_some b c r within only)) l.ends;
         opened = open_at;
         ends = r.tells.1;
         joined = subst (IsJoined []) (sym r.chunk) (joined_more text_b r.line l.joined (λ _. left_open o at text_b open_at) r.tells.0.one);
@@ -124,15 +124,15 @@ module _ (x y : Seen) (o : OpenLiteral) (at from : ℕ) (a b c : Buffered) (text
         joined = subst (IsJoined []) (sym same) l.joined;
         ahead = inr (
           ahead_kept x y a b c text_b text_c q r none not (ahead_but a b l.ahead),
-          subst (IsOpenAt o at) (sym same) (open_behind goes),
+          subst (IsOpenAt o at) (sym same) (open_following goes),
         );
       }
 
 -- The literal ended.
-pub joins_ended : (o : OpenLiteral) (at from : ℕ) (a b : Buffered) (text : List ℕ) → LinesBehind o at from a b text → Joins o at a b text
+pub joins_ended : (o : OpenLiteral) (at from : ℕ) (a b : Buffered) (text : List ℕ) → LinesAfter o at from a b text → Joins o at a b text
 joins_ended o at from a b text l = record { joined = l.joined; ahead = inl l.ahead }
 
--- A line was read behind lines where a literal is open.
+-- A line was read after lines where a literal is open.
 module _ (old mid : HeldLines) (at : ℕ) (r : IsLineMore old mid at) (s : IsAtStop (string_bytes old.text) at)
     (less : at < length (string_bytes old.text)) where
   feed_held : ends_line (string_bytes old.text) ≡ true
@@ -141,10 +141,10 @@ module _ (old mid : HeldLines) (at : ℕ) (r : IsLineMore old mid at) (s : IsAtS
   some_left : 0 < length (drop at (string_bytes old.text))
   some_left = let n = length-drop at (string_bytes old.text) in omega (arith, n, less)
 
-  -- more may be read behind it
-  pub behind_first : (o : OpenLiteral) (start : Buffered) → AheadBut start old.lines → IsOpenBy o (chars (drop at (string_bytes old.text)))
-      → LinesBehind o at (length (string_bytes old.text)) start mid.lines (string_bytes mid.text)
-  behind_first o start a i =
+  -- more may be read after it
+  pub following_first : (o : OpenLiteral) (start : Buffered) → AheadBut start old.lines → IsOpenBy o (chars (drop at (string_bytes old.text)))
+      → LinesAfter o at (length (string_bytes old.text)) start mid.lines (string_bytes mid.text)
+  following_first o start a i =
       let open_at : IsOpenAt o at (string_bytes old.text) = record {
         within = s.within;
         left = s.left;
@@ -190,7 +190,7 @@ module _ (old mid : HeldLines) (at : ℕ) (r : IsLineMore old mid at) (s : IsAtS
         ahead = λ start a. ⊎_elim (λ b. inl b) (λ b. inr (some_left, b.0, rw r.at (b.1.none, b.1.opened.unended))) (j start a).ahead;
       }
 
--- where none is open nothing is read behind them
+-- where none is open nothing is read after them
 pub holds_none : (old new : HeldLines) (at : ℕ) → at < length (string_bytes old.text)
     → is_open_string (chars (drop at (string_bytes old.text))) ≡ false → HoldsOn old new at (Ok met.Text)
 holds_none old new at less none = λ s. let n = length-drop at (string_bytes old.text) in
@@ -222,7 +222,7 @@ adds_other old new from met.End h = tt
 adds_other old new from (met.Fault f) h = tt
 adds_other old new from met.Read h = tt
 
--- a line that was read behind those held
+-- a line that was read after those held
 pub line_more : (x y : Seen) (old new : HeldLines) (from : ℕ)
     → (r : NextLine x y old.lines new.lines (string_bytes old.text) (string_bytes new.text) (Ok met.Text)) → new.at ≡ from
     → IsLineMore old new from

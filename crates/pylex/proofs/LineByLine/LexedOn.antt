@@ -26,7 +26,7 @@ use Rattle.pylex.specs.Held.{IsJoined, LexedTo, at_left, past_lexeme}
 use Rattle.pylex.proofs.LineByLine.Carried.{drop_ends, drop_carried, lexeme_lines}
 use Rattle.pylex_lexeme.proofs.Callers.WholeLines.{lexeme_kept}
 use Rattle.pylex_listing.proofs.Callers.{cut_lexed, lexeme_parts, lexeme_some, none_at_all, lexeme_front}
-use Rattle.pylex.proofs.LineByLine.Lined.{lined_chars, feed_behind, ends_on}
+use Rattle.pylex.proofs.LineByLine.Lined.{lined_chars, feed_following, ends_on}
 use Rattle.pylex.proofs.MachineLaws.Steps.{left_step, left_stop}
 
 -- Past lexemes and then past others.
@@ -42,17 +42,17 @@ lexed_on ds es cs h (past_lexeme bs x e p) =
     (subst (LexedTo (ds ++ es)) (sym (drop_carried cs es x l e))
     (lexed_on ds es (drop (lexeme_len cs) cs) (⊎_elim (λ z. inr z) (λ m. inl m) (drop_ends cs x l e)) p))
 
--- The cut leaves what it leaves behind them.
+-- The cut leaves what it leaves after them.
 len_is : (cs : List ℕ) (x : Lexeme) → lexeme_at cs ≡ Some x → drop (length x.text) cs ≡ drop (lexeme_len cs) cs
 len_is cs x e =
     let front = lexeme_front cs x e in
     let whole : x.text ++ drop (length x.text) cs ≡ x.text ++ drop (lexeme_len cs) cs =
     sym (lexeme_parts cs x e) ∙ sym (take-append-drop (lexeme_len cs) cs) ∙ ap (λ t. t ++ drop (lexeme_len cs) cs) (sym front) in
-    behind x.text (drop (length x.text) cs) (drop (lexeme_len cs) cs) whole
+    following x.text (drop (length x.text) cs) (drop (lexeme_len cs) cs) whole
   where
-    behind : (t a b : List ℕ) → t ++ a ≡ t ++ b → a ≡ b
-    behind [] a b h = h
-    behind (c ∷ t) a b h = behind t a b cc
+    following : (t a b : List ℕ) → t ++ a ≡ t ++ b → a ≡ b
+    following [] a b h = h
+    following (c ∷ t) a b h = following t a b cc
 
 pub left_lexed : (ds cs : List ℕ) → LexedTo ds cs → left_by_cut cs ≡ left_by_cut ds
 left_lexed ds cs at_left = refl
@@ -89,7 +89,7 @@ pub lexed_finds : (levels : List ℕ) (p : LineState) (cs : List ℕ) (m : Peeke
     → ((f : ListingFault) → m ≡ peeked.Fault f → ⊥) → Peek levels p cs m q ds → LexedTo ds cs
 lexed_finds levels p cs (peeked.Entry e) q ds h f =
     lexed_both f.before ds cs (lexed_comes levels p cs f.there f.before f.comes)
-    (past_lexeme f.before f.lexeme f.stands (subst (λ t. LexedTo ds t) f.behind at_left))
+    (past_lexeme f.before f.lexeme f.stands (subst (λ t. LexedTo ds t) f.following at_left))
 lexed_finds levels p cs (peeked.Fault g) q ds h f = absurd (h g refl)
 lexed_finds levels p cs peeked.Indent q ds h f = lexed_comes levels p cs q ds f.0
 lexed_finds levels p cs peeked.Dedent q ds h f = lexed_comes levels p cs q ds f.0
@@ -152,7 +152,7 @@ feed_last (b ∷ c ∷ front) back h e some = ⊎_elim
     first_of b t [] n e = absurd (n (let f : (b ∷ []) ∷ [] ≡ (b ∷ t) ∷ [] = e in cc))
     first_of b t (l ∷ ls) n e = let f : (b ∷ l) ∷ ls ≡ (b ∷ t) ∷ [] = e in cc
 
--- A text that goes on by one line, behind an open literal.
+-- A text that goes on by one line, after an open literal.
 pub joined_more : (text line : List ℕ) → IsJoined [] text → (0 < length text → is_open_string (left_by_cut (chars text)) ≡ true)
     → lines_of line ≡ line ∷ [] → IsJoined [] (text ++ line)
 joined_more text line h opened one front back e feed some = ⊎_elim within past (split text line front back e)
@@ -184,7 +184,7 @@ joined_more text line h opened one front back e feed some = ⊎_elim within past
     past ([], is, b) = all (sym (is ∙ append-nil text))
     past (x ∷ m, is, b) =
         absurd (feed_last (x ∷ m) back (ap lines_of (sym b) ∙ one ∙ ap (λ t. t ∷ []) b)
-        (feed_behind text x m (ap ends_line (sym is) ∙ feed)) some)
+        (feed_following text x m (ap ends_line (sym is) ∙ feed)) some)
 
 -- nothing is left of nothing
 left_none : left_by_cut [] ≡ []
@@ -197,17 +197,17 @@ left_none = left_stop [] (none_at (lexeme_at []) refl)
 pub left_all : (cs : List ℕ) → LexedTo [] cs → left_by_cut cs ≡ []
 left_all cs l = left_lexed [] cs l ∙ left_none
 
--- Lines that stand behind others that are lexed whole.
-pub left_behind : (before text : List ℕ) → IsUtf8 before → (before ≡ []) ⊎ (ends_line before ≡ true) → left_by_cut (chars before) ≡ []
+-- Lines that stand after others that are lexed whole.
+pub left_after : (before text : List ℕ) → IsUtf8 before → (before ≡ []) ⊎ (ends_line before ≡ true) → left_by_cut (chars before) ≡ []
     → left_by_cut (chars (before ++ text)) ≡ left_by_cut (chars text)
-left_behind before text u ends closed =
+left_after before text u ends closed =
     let lined : EndsLine (chars before) ⊎ (chars before ≡ []) =
     ⊎_elim (λ z. inr (ap chars z ∙ chars-nil)) (λ l. inl (lined_chars before u l)) ends in
     let lexed : LexedTo (chars text) (chars before ++ chars text) =
     lexed_on [] (chars text) (chars before) lined (subst (λ l. LexedTo l (chars before)) closed (lexed_cut (chars before))) in
     ap left_by_cut (chars-append before text u) ∙ left_lexed (chars text) (chars before ++ chars text) lexed
 
-pub joined_behind : (before text : List ℕ) → IsUtf8 before → (before ≡ []) ⊎ (ends_line before ≡ true) → left_by_cut (chars before) ≡ []
+pub joined_after : (before text : List ℕ) → IsUtf8 before → (before ≡ []) ⊎ (ends_line before ≡ true) → left_by_cut (chars before) ≡ []
     → IsJoined [] text → IsJoined before text
-joined_behind before text u ends closed h front back e feed some = ap is_open_string (left_behind before front u ends closed)
+joined_after before text u ends closed h front back e feed some = ap is_open_string (left_after before front u ends closed)
     ∙ h front back e feed some

@@ -67,7 +67,7 @@ stop_back q cs es (inl l) s = record {
 stop_back q [] es (inr e) s = record { none = nothing_at (lexeme_at []) refl; settled = nothing_begins q.margin }
 stop_back q (c ∷ cs) es (inr e) s = absurd (let f : c ∷ cs ≡ [] = e in cc)
 
--- Where no literal is open, the fault behind the text is not what ends its listing.
+-- Where no literal is open, the fault after the text is not what ends its listing.
 fault_any : (f g : Option ListingFault) (s : State) (ds : List ℕ) → is_open_string ds ≡ false
     → stop_fault f s.now.place ds ≡ stop_fault g s.now.place ds
 unfolding stop_fault
@@ -115,12 +115,12 @@ pub lined_chars : (held : List ℕ) → IsUtf8 held → ends_line held ≡ true 
 lined_chars held u e = let f = last_feed held e in subst (λ t. EndsLine (chars t)) (sym f.1) (chars_lines f.0 (subst IsUtf8 f.1 u))
 
 -- And so are those that are left of them, if any are.
-pub feed_behind : (a : List ℕ) (b : ℕ) (bs : List ℕ) → ends_line (a ++ b ∷ bs) ≡ true → ends_line (b ∷ bs) ≡ true
-feed_behind [] b bs e = e
-feed_behind (c ∷ []) b bs e = sym (ends_on c b bs) ∙ e
-feed_behind (c ∷ d ∷ a) b bs e = feed_behind (d ∷ a) b bs (sym (ends_on c d (a ++ b ∷ bs)) ∙ e)
+pub feed_following : (a : List ℕ) (b : ℕ) (bs : List ℕ) → ends_line (a ++ b ∷ bs) ≡ true → ends_line (b ∷ bs) ≡ true
+feed_following [] b bs e = e
+feed_following (c ∷ []) b bs e = sym (ends_on c b bs) ∙ e
+feed_following (c ∷ d ∷ a) b bs e = feed_following (d ∷ a) b bs (sym (ends_on c d (a ++ b ∷ bs)) ∙ e)
 
 pub lined_or_last : (held a left : List ℕ) → held ≡ a ++ left → IsUtf8 left → ends_line held ≡ true
     → EndsLine (chars left) ⊎ (chars left ≡ [])
 lined_or_last held a [] h u e = inr chars-nil
-lined_or_last held a (b ∷ bs) h u e = inl (lined_chars (b ∷ bs) u (feed_behind a b bs (ap ends_line (sym h) ∙ e)))
+lined_or_last held a (b ∷ bs) h u e = inl (lined_chars (b ∷ bs) u (feed_following a b bs (ap ends_line (sym h) ∙ e)))

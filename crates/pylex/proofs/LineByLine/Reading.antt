@@ -1,6 +1,6 @@
 -- A lister that reads on stands where it stood.
 --
--- Carries: ends_behind, lined_left, no_text, only_line and 2 more, for Searching, Adding, JoinedOn,
+-- Carries: ends_following, lined_left, no_text, only_line and 2 more, for Searching, Adding, JoinedOn,
 -- Stepping. On: LexedOn, Lined, Streaming, Carried and 1 more.
 use Rattle.std.proofs.Common.{◌≡◌, ◌⊎◌, inl, inr, ⊎_elim, ℕ, ◌+◌, ◌<◌, Bool, true, false, zero, suc, List, [], ◌∷◌, ◌++◌, length, take}
 use Rattle.std.proofs.Common.{drop, refl, ap, sym, ◌∙◌, subst, append-nil, append_assoc, length-append, arith, None, string_bytes}
@@ -22,18 +22,18 @@ use Rattle.pylex.specs.Streamed.{StreamsIn}
 use Rattle.pylex.specs.Inner.LineSteps.{streamed}
 use Rattle.pylex.specs.Held.{IsJoined, LexedTo}
 use Rattle.pylex_lexeme.specs.Lexemes.{left_by_cut}
-use Rattle.pylex.proofs.LineByLine.LexedOn.{joined_behind, left_behind, left_all}
+use Rattle.pylex.proofs.LineByLine.LexedOn.{joined_after, left_after, left_all}
 use Rattle.pylex.proofs.LineByLine.Carried.{comes_carried}
 use Rattle.pylex.proofs.LineByLine.Lined.{keeps_on, lined_or_last, ends_on}
 use Rattle.pylex.proofs.Listers.Ranges.{measuring_comes}
 use Rattle.pylex.proofs.LineByLine.Streaming.{Lined, stands_whole}
 
--- a text that ends with a line feed does so behind another
-pub ends_behind : (a b : List ℕ) → ends_line b ≡ true → ends_line (a ++ b) ≡ true
-ends_behind [] b h = h
-ends_behind (x ∷ []) [] h = absurd (let f : false ≡ true = h in cc)
-ends_behind (x ∷ []) (y ∷ b) h = ends_on x y b ∙ h
-ends_behind (x ∷ y ∷ a) b h = ends_on x y (a ++ b) ∙ ends_behind (y ∷ a) b h
+-- a text that ends with a line feed does so after another
+pub ends_following : (a b : List ℕ) → ends_line b ≡ true → ends_line (a ++ b) ≡ true
+ends_following [] b h = h
+ends_following (x ∷ []) [] h = absurd (let f : false ≡ true = h in cc)
+ends_following (x ∷ []) (y ∷ b) h = ends_on x y b ∙ h
+ends_following (x ∷ y ∷ a) b h = ends_on x y (a ++ b) ∙ ends_following (y ∷ a) b h
 
 -- what is left of lines is lines, unless nothing follows
 pub lined_left : (held : List ℕ) (at : ℕ) (ahead : List ℕ) → IsUtf8 (drop at held) → (held ≡ []) ⊎ ((ends_line held ≡ true) ⊎ (ahead ≡ []))
@@ -78,17 +78,17 @@ module _ (pos : Machine) (q : LineState) (old new : HeldLines) (from : ℕ) (tak
   abbrev before_it : List ℕ
   before_it = (comes old.lines (taken ++ more) broken).text
 
-  abbrev behind_it : List ℕ
-  behind_it = (comes new.lines more broken).text
+  abbrev after_it : List ℕ
+  after_it = (comes new.lines more broken).text
 
   module _ (gives : comes old.lines (taken ++ more) broken ≡ onto line (comes new.lines more broken)) where
-    text_is : before_it ≡ line ++ behind_it
+    text_is : before_it ≡ line ++ after_it
     text_is = ap (λ (c : Coming). c.text) gives
 
     fault_is : (comes old.lines (taken ++ more) broken).fault ≡ (comes new.lines more broken).fault
     fault_is = ap (λ (c : Coming). c.fault) gives
 
-    module _ (grows : Grows old new from line) (some : 0 < length line) (ends : (ends_line line ≡ true) ⊎ (behind_it ≡ [])) where
+    module _ (grows : Grows old new from line) (some : 0 < length line) (ends : (ends_line line ≡ true) ⊎ (after_it ≡ [])) where
       begins_new : (x.before ++ grows.gone ≡ []) ⊎ (ends_line (x.before ++ grows.gone) ≡ true)
       begins_new = ⊎_elim same all grows.looked
         where
@@ -96,27 +96,27 @@ module _ (pos : Machine) (q : LineState) (old new : HeldLines) (from : ℕ) (tak
           same e = rw (e, append-nil x.before) x.begins
 
           all : grows.gone ≡ held → (x.before ++ grows.gone ≡ []) ⊎ (ends_line (x.before ++ grows.gone) ≡ true)
-          all e = ⊎_elim (λ none. same (e ∙ none)) (⊎_elim (λ l. inr (ends_behind x.before grows.gone (ap ends_line e ∙ l)))
-              (λ none. absurd (no_text line behind_it some (sym text_is ∙ none)))) x.ends
+          all e = ⊎_elim (λ none. same (e ∙ none)) (⊎_elim (λ l. inr (ends_following x.before grows.gone (ap ends_line e ∙ l)))
+              (λ none. absurd (no_text line after_it some (sym text_is ∙ none)))) x.ends
 
-      ends_new : (then ≡ []) ⊎ ((ends_line then ≡ true) ⊎ (behind_it ≡ []))
+      ends_new : (then ≡ []) ⊎ ((ends_line then ≡ true) ⊎ (after_it ≡ []))
       ends_new = inr (⊎_elim (λ l. inl (by_line l grows.looked)) (λ none. inr none) ends)
         where
           by_line : ends_line line ≡ true → (grows.gone ≡ []) ⊎ (grows.gone ≡ held) → ends_line then ≡ true
-          by_line l (inl e) = ap ends_line (ap (λ g. g ++ then) (sym e) ∙ sym grows.whole) ∙ ends_behind held line l
+          by_line l (inl e) = ap ends_line (ap (λ g. g ++ then) (sym e) ∙ sym grows.whole) ∙ ends_following held line l
           by_line l (inr e) = ap ends_line (only_line held grows.gone then line grows.whole e) ∙ l
 
-      whole_new : s.text ≡ (x.before ++ grows.gone) ++ (then ++ behind_it)
+      whole_new : s.text ≡ (x.before ++ grows.gone) ++ (then ++ after_it)
       whole_new =
           x.whole
           ∙ ap (λ t. x.before ++ (held ++ t)) text_is
-          ∙ ap (λ t. x.before ++ t) (sym (append_assoc held line behind_it) ∙ ap (λ t. t ++ behind_it) grows.whole
-          ∙ append_assoc grows.gone then behind_it)
-          ∙ sym (append_assoc x.before grows.gone (then ++ behind_it))
+          ∙ ap (λ t. x.before ++ t) (sym (append_assoc held line after_it) ∙ ap (λ t. t ++ after_it) grows.whole
+          ∙ append_assoc grows.gone then after_it)
+          ∙ sym (append_assoc x.before grows.gone (then ++ after_it))
 
-      left_new : drop from held ++ before_it ≡ drop new.at then ++ behind_it
-      left_new = ap (λ t. drop from held ++ t) text_is ∙ sym (append_assoc (drop from held) line behind_it)
-          ∙ ap (λ t. t ++ behind_it) (sym grows.left)
+      left_new : drop from held ++ before_it ≡ drop new.at then ++ after_it
+      left_new = ap (λ t. drop from held ++ t) text_is ∙ sym (append_assoc (drop from held) line after_it)
+          ∙ ap (λ t. t ++ after_it) (sym grows.left)
 
       utf8_before : IsUtf8 held → IsUtf8 x.before
       utf8_before u =
@@ -131,12 +131,12 @@ module _ (pos : Machine) (q : LineState) (old new : HeldLines) (from : ℕ) (tak
           by : (g : List ℕ) → grows.gone ≡ g → grows.gone ≡ held → left_by_cut (chars (x.before ++ grows.gone)) ≡ []
           by [] z e = ap (λ t. left_by_cut (chars t)) (ap (λ g. x.before ++ g) z ∙ append-nil x.before) ∙ x.closed
           by (c ∷ g) z e =
-              let all : drop from held ≡ [] = grows.behind (omega (arith, ap length z)) in
+              let all : drop from held ≡ [] = grows.following (omega (arith, ap length z)) in
               let none : LexedTo [] (chars held) = subst (λ l. LexedTo l (chars held)) (ap chars all ∙ chars-nil) lexed in
-              ap (λ t. left_by_cut (chars (x.before ++ t))) e ∙ left_behind x.before held (utf8_before u) x.begins x.closed
+              ap (λ t. left_by_cut (chars (x.before ++ t))) e ∙ left_after x.before held (utf8_before u) x.begins x.closed
               ∙ left_all (chars held) none
 
-      -- Behind a line that was read.
+      -- After a line that was read.
       pub reads_line : IsJoined [] then → IsUtf8 held → LexedTo (chars (drop from held)) (chars held) → IsUtf8 (drop old.at held)
           → IsUtf8 (drop from held) → Comes (take pos.nested pos.levels.items) pos.now (chars (drop old.at held)) q (chars (drop from held))
           → ((n : ℕ) → HasRoom pos.now (length (drop old.at held) + n) → HasRoom q (length (drop from held) + n))
@@ -156,7 +156,7 @@ module _ (pos : Machine) (q : LineState) (old new : HeldLines) (from : ℕ) (tak
             base = length-append x.before grows.gone ∙ ap (λ n. n + length grows.gone) x.base ∙ sym grows.base;
             begins = begins_new;
             closed = closed_new w lexed;
-            joined = joined_behind (x.before ++ grows.gone) then (utf8_gone grows.looked) begins_new (closed_new w lexed) joined;
+            joined = joined_after (x.before ++ grows.gone) then (utf8_gone grows.looked) begins_new (closed_new w lexed) joined;
             ends = ends_new;
             encoding = x.encoding ∙ sym encoding;
             fault = x.fault ∙ fault_is;
@@ -174,7 +174,7 @@ module _ (pos : Machine) (q : LineState) (old new : HeldLines) (from : ℕ) (tak
     -- Where no line came.
     pub reads_none : line ≡ [] → Stays old new → new.lines.encoding ≡ old.lines.encoding → StreamsIn (streamed pos new None) s k more broken
     reads_none none stays encoding =
-        let same : before_it ≡ behind_it = text_is ∙ ap (λ t. t ++ behind_it) none in
+        let same : before_it ≡ after_it = text_is ∙ ap (λ t. t ++ after_it) none in
         record {
           before = x.before;
           whole = rw (stays.text, ← same) x.whole;

@@ -28,7 +28,7 @@ use Rattle.pylex.specs.declared.peeked.Peeked.TheVariants as peeked
 use Rattle.pylex.specs.declared.machine.Machine.{Machine}
 use Rattle.pylex.specs.declared.line_lister.Found.{Found}
 use Rattle.pylex.specs.Inner.Chunked.{Grows, HoldsOn, Stays, Adds, ReadsOn}
-use Rattle.pylex.specs.LineState.{Stands, StopAhead, IsAscending, Behind}
+use Rattle.pylex.specs.LineState.{Stands, StopAhead, IsAscending, Following}
 use Rattle.pylex.specs.Streamed.{Continues, StreamsIn}
 use Rattle.pylex.specs.Inner.LineSteps.{IsStreaming, IsWaiting, streamed, Looks, LooksAhead, PeekedIn, Searches, Lacks, lacks}
 use Rattle.pylex.specs.Held.{Ahead, AheadBut, IsAtStop}
@@ -112,8 +112,8 @@ module _ (p : Machine) (c : HeldLines) (h : IsStreaming p c None) where
       let two = length-append held (comes c.lines w.more w.broken).text in
       omega (arith, x.base, x.keeps.small, whole, one, two)
 
-pub drop_behind : (text : List ℕ) (at : ℕ) (rest : List ℕ) → Behind (drop at text) rest → drop (length text - length rest) text ≡ rest
-drop_behind text at rest b =
+pub drop_after : (text : List ℕ) (at : ℕ) (rest : List ℕ) → Following (drop at text) rest → drop (length text - length rest) text ≡ rest
+drop_after text at rest b =
     let front = take at text ++ b.0 in
     let whole : text ≡ front ++ rest = sym (take-append-drop at text) ∙ ap (λ t. take at text ++ t) b.1
     ∙ sym (append_assoc (take at text) b.0 rest) in
@@ -215,7 +215,7 @@ module _ (seen_0 seen_1 seen_2 : Seen) (p q : Machine) (c d e : HeldLines) (f : 
         };
       }
 
-  -- How far was read ahead behind a line, and where the literal is open still.
+  -- How far was read ahead after a line, and where the literal is open still.
   pub ahead_then : ReadsOn seen_1 seen_2 d e f.at (Ok lines.Text) → lacks (drop f.at (string_bytes d.text)) ≡ true
       → HoldsOn d e f.at (Ok lines.Text) → Ahead c.lines d.lines ⊎ (AheadBut c.lines d.lines × IsWaiting q d)
       → Ahead c.lines e.lines ⊎ (AheadBut c.lines e.lines × IsWaiting (record q { now = f.now }) e)

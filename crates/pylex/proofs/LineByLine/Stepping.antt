@@ -34,7 +34,7 @@ use Rattle.pylex.proofs.LineByLine.Streaming.{Lined, utf8_after, finds_whole, en
 use Rattle.pylex_lexeme.proofs.Callers.Fronts.{length-text}
 use Rattle.pylex.proofs.Listing.Unencoded.{not_encoding}
 
--- nothing is left behind a step without entry but what was left
+-- nothing is left after a step without entry but what was left
 left_same : (s : Step) (from to : List ℕ) → ((e : Entry) → s ≡ steps.Entry e → ⊥) → left_by s from to ≡ from
 left_same (steps.Entry e) from to h = absurd (h e refl)
 left_same steps.End from to h = refl
@@ -47,12 +47,12 @@ pub indent_is : (q : Machine) (d : HeldLines) (f : Found) → IsStreaming q d No
 indent_is q d f h m is some s k more broken g x =
     let coming = (comes d.lines more broken).text in
     let left = drop d.at (string_bytes d.text) in
-    let behind = drop f.at (string_bytes d.text) in
-    let found = finds_whole (take q.nested q.levels.items) q.now left f.peeked f.now behind coming s.fault f.fault h.left m.looks.left
+    let following = drop f.at (string_bytes d.text) in
+    let found = finds_whole (take q.nested q.levels.items) q.now left f.peeked f.now following coming s.fault f.fault h.left m.looks.left
     (lined_left (string_bytes d.text) d.at coming h.left x.ends) (m.stops s k more broken g x) m.looks.finds in
     let i = rw is at found in
     awaits_indent (record { source = s; shown = shown_from q }) q.now (left ++ coming) q.levels.items q.nested q.tail x.keeps refl some
-    (no_tail q.tail m.looks.tail) f.now (chars (behind ++ coming)) i.0 i.1 (in_characters s) k x.stands
+    (no_tail q.tail m.looks.tail) f.now (chars (following ++ coming)) i.0 i.1 (in_characters s) k x.stands
   where
     no_tail : (n : ℕ) → (0 < n
         → (f.peeked ≡ peeked.Stop) × (f.now ≡ q.now) × (drop f.at (string_bytes d.text) ≡ drop d.at (string_bytes d.text))) → n ≡ 0
@@ -148,7 +148,7 @@ module _ (q r : Machine) (d : HeldLines) (f : Found) (step : Step) (h : IsStream
           ends = omega (arith, range.1, placed, size_text, size_rest, x.base);
         }
 
-    -- Behind an entry.
+    -- After an entry.
     pub streams_entry : 0 < k → StreamsIn (streamed r (record d { at = f.at }) (Some e)) s (k + entries_in step) more broken
     streams_entry some = record {
       before = x.before;

@@ -1,6 +1,6 @@
 -- The steps of a lister that reads line by line, each in all the sources in which it stands.
 --
--- Carries: LineLister::cursor, LineLister::next, next_behind, LineLister::shows, line_lister::pass,
+-- Carries: LineLister::cursor, LineLister::next, next_after, LineLister::shows, line_lister::pass,
 -- pass_on. On: Stepping, LexedOn, Moving, AheadOn and 2 more.
 use Rattle.std.proofs.Common.{◌≡◌, ◌⊎◌, inl, inr, ⊎_elim, ℕ, ◌+◌, ◌<◌, ◌-◌, Bool, List, [], ◌++◌, length, take, drop, refl, ap, sym, ◌∙◌}
 use Rattle.std.proofs.Common.{subst, arith, Option, Some, None, string_bytes}
@@ -25,7 +25,7 @@ use Rattle.pylex.specs.declared.line_lister.Found.{Found}
 use Rattle.pylex_listing.specs.Listing.{in_characters, listing, origin}
 use Rattle.pylex.specs.Listers.{Listed, shown_by}
 use Rattle.pylex_listing.specs.Machine.{mark_at}
-use Rattle.pylex.specs.Inner.MachineSteps.{shown_from, FaultsFirst, HasPlace, IsSame, Advance, StaysBehind}
+use Rattle.pylex.specs.Inner.MachineSteps.{shown_from, FaultsFirst, HasPlace, IsSame, Advance, StaysAfter}
 use Rattle.pylex_listing.specs.Steps.{entries_in, IsNoEntry}
 use Rattle.pylex.specs.Streamed.{AwaitsLine, Continues, Streamed, StreamsIn, IsLast, IsAhead, Next}
 use Rattle.pylex.specs.Inner.LineSteps.{IsStreaming, LooksAhead, Searches, streamed, PeekedIn}
@@ -179,7 +179,7 @@ pub entry_ahead : (f : Found) (step : Step) (e : Entry) (a b : Buffered) → ste
 entry_ahead f step e a b is first (inr l) = l
 entry_ahead f step e a b is first (inl (stop, fault, some)) = absurd (rw (is, stop, some) at first)
 
--- A step behind a search.
+-- A step after a search.
 module _ (seen_old seen_new : Seen) (p q : Machine) (c d : HeldLines) (last : Option Entry) (so : Searches seen_old seen_new p q c d) where
   stood : (s : Parts) (k : ℕ) (more : List ℕ) (broken : Bool) → Continues d.lines more broken
       → StreamsIn (streamed p c last) s k (so.taken ++ more) broken → StreamsIn (streamed q d None) s k more broken
@@ -328,7 +328,7 @@ module _ (seen_old seen_new : Seen) (p q : Machine) (c d : HeldLines) (last : Op
           omega (arith, n, z)
 
       -- no line has to be read then
-      ended_other : (t : Step) → ((e : Entry) → t ≡ steps.Entry e → ⊥) → StaysBehind q f.peeked r t → AwaitsLine (streamed r d None) → ⊥
+      ended_other : (t : Step) → ((e : Entry) → t ≡ steps.Entry e → ⊥) → StaysAfter q f.peeked r t → AwaitsLine (streamed r d None) → ⊥
       ended_other t h stays a = by t h stays
         where
           met : (r ≡ q) × ((f.peeked ≡ peeked.Stop) ⊎ ((g : ListingFault) × (f.peeked ≡ peeked.Fault g))) → ⊥
@@ -336,12 +336,12 @@ module _ (seen_old seen_new : Seen) (p q : Machine) (c d : HeldLines) (last : Op
               let b : AwaitsLine (streamed q d None) = subst (λ x. AwaitsLine (streamed x d None)) w.0 a in
               ⊎_elim (λ i. m.ended i b) (λ i. awaits_no_fault (streamed q d None) i.0 b (rw i.1 at m.looks.finds)) w.1
 
-          by : (t : Step) → ((e : Entry) → t ≡ steps.Entry e → ⊥) → StaysBehind q f.peeked r t → ⊥
+          by : (t : Step) → ((e : Entry) → t ≡ steps.Entry e → ⊥) → StaysAfter q f.peeked r t → ⊥
           by (steps.Entry e) h w = h e refl
           by steps.End h w = met w
           by (steps.Fault g) h w = met w
 
-      pub steps_other : StaysBehind q f.peeked r step → Next seen_old seen_new (streamed p c last) (streamed r d None) (Ok step)
+      pub steps_other : StaysAfter q f.peeked r step → Next seen_old seen_new (streamed p c last) (streamed r d None) (Ok step)
       steps_other stays = record {
         taken = so.taken;
         reads = so.reads;

@@ -23,12 +23,12 @@ use Rattle.pylex_lexeme.specs.Lexemes.{lexeme_at}
 use Rattle.pylex_lexeme.specs.Cuts.{begins_significant}
 use Rattle.pylex_listing.specs.Listing.{further, stop_fault, row_after, up_to_end}
 use Rattle.pylex_listing.specs.Steps.{first_step, fault_at}
-use Rattle.pylex_listing.specs.Machine.{State, is_hash, stop_of, tail_of, last_line_end, last_place, remaining, behind_steps, mark_at}
+use Rattle.pylex_listing.specs.Machine.{State, is_hash, stop_of, tail_of, last_line_end, last_place, remaining, after_steps, mark_at}
 use Rattle.pylex_listing.specs.Machine.{dedents_at}
 use Rattle.pylex.specs.LineState.{with_levels, given, GivesNoText, closing, IsAscending, StopAhead}
 use Rattle.pylex_listing.proofs.Callers.{up_to_end-append, all_cut}
 use Rattle.pylex.proofs.MachineLaws.Steps.{remaining_stop}
-use Rattle.pylex.proofs.Listers.Measured.{stop_within, behind_steps-append}
+use Rattle.pylex.proofs.Listers.Measured.{stop_within, after_steps-append}
 use Rattle.pylex.proofs.Listers.Finding.{settled_layout}
 
 -- a text with bytes has characters
@@ -66,7 +66,7 @@ stop_found fault p ls c cs stop =
         stop_fault fault q left ∷ []
     one_step fault q left = one_by (stop_fault fault q left)
 
--- the text's end, with a faulty line behind it
+-- the text's end, with a faulty line after it
 stop_line : (f : ListingFault) (s : State) → stop_of (Some f) s [] ≡ steps.Fault f ∷ []
 unfolding stop_of
 stop_line f s = refl
@@ -95,19 +95,19 @@ stop_tail : (s : State) → (not (s.depth == 0) || s.joined) ≡ false → stop_
 unfolding stop_of tail_of
 stop_tail s h = rw h refl
 
-entries_behind : (n : ℕ) (e : Entry) (r : List Step) → behind_steps (replicate n (steps.Entry e)) r ≡ replicate n (steps.Entry e) ++ r
-entries_behind zero e r = refl
-entries_behind (suc n) e r = ap (λ ss. steps.Entry e ∷ ss) (entries_behind n e r)
+entries_after : (n : ℕ) (e : Entry) (r : List Step) → after_steps (replicate n (steps.Entry e)) r ≡ replicate n (steps.Entry e) ++ r
+entries_after zero e r = refl
+entries_after (suc n) e r = ap (λ ss. steps.Entry e ∷ ss) (entries_after n e r)
 
 -- the steps of the end are entries and the end
 pub tail_found : (s : State) → lexeme_at [] ≡ None → (not (s.depth == 0) || s.joined) ≡ false
-    → remaining None s [] ≡ behind_steps (last_line_end s) (closing s)
+    → remaining None s [] ≡ after_steps (last_line_end s) (closing s)
 tail_found s e h =
     remaining_stop None s [] e
     ∙ ap up_to_end (stop_tail s h)
     ∙ up_to_end-append (last_line_end s ++ dedents_of s) (end_of s)
-    ∙ behind_steps-append (last_line_end s) (dedents_of s) (end_of s)
-    ∙ ap (behind_steps (last_line_end s)) (entries_behind (count_by (nat_lt 0) s.levels) _ (end_of s))
+    ∙ after_steps-append (last_line_end s) (dedents_of s) (end_of s)
+    ∙ ap (after_steps (last_line_end s)) (entries_after (count_by (nat_lt 0) s.levels) _ (end_of s))
 
 -- The same over bytes.
 pub stop_in : (fault : Option ListingFault) (p : LineState) (ls bytes : List ℕ) (f : ListingFault) → IsUtf8 bytes
@@ -137,7 +137,7 @@ pub open_in : (s : State) (bytes : List ℕ) (q : Place) → (length bytes == 0)
 open_in s bytes q none at open_now is = let e = no_chars_left bytes none in rw (e, is) (open_found s (ap lexeme_at (sym e) ∙ at) open_now)
 
 pub tail_in : (s : State) (bytes : List ℕ) (lasts : List Step) → (length bytes == 0) ≡ true → lexeme_at (chars bytes) ≡ None
-    → (not (s.depth == 0) || s.joined) ≡ false → last_line_end s ≡ lasts → remaining None s (chars bytes) ≡ behind_steps lasts (closing s)
+    → (not (s.depth == 0) || s.joined) ≡ false → last_line_end s ≡ lasts → remaining None s (chars bytes) ≡ after_steps lasts (closing s)
 tail_in s bytes lasts none at open_now is = let e = no_chars_left bytes none in
     rw (e, ← is) (tail_found s (ap lexeme_at (sym e) ∙ at) open_now)
 
@@ -160,23 +160,23 @@ closing_steps p levels n h e =
     ap (λ k. replicate k (mark_at kinds.Dedent p.now.offset place place) ++ mark_at kinds.EndMarker p.now.offset place place
     ∷ steps.End ∷ []) counted
 
-behind_end : (k : ℕ) → first_step (drop k (steps.End ∷ [])) ≡ steps.End
-behind_end zero = refl
-behind_end (suc k) = behind_none k
+after_end : (k : ℕ) → first_step (drop k (steps.End ∷ [])) ≡ steps.End
+after_end zero = refl
+after_end (suc k) = after_none k
   where
-    behind_none : (k : ℕ) → first_step (drop k []) ≡ steps.End
-    behind_none zero = refl
-    behind_none (suc k) = refl
+    after_none : (k : ℕ) → first_step (drop k []) ≡ steps.End
+    after_none zero = refl
+    after_none (suc k) = refl
 
 first_repeated : (n k : ℕ) (d : Step) (ss : List Step) → k < n → first_step (drop k (replicate n d ++ ss)) ≡ d
 first_repeated zero k d ss h = absurd (omega arith)
 first_repeated (suc n) zero d ss h = refl
 first_repeated (suc n) (suc k) d ss h = first_repeated n k d ss (omega arith)
 
-behind_repeated : (n k : ℕ) (d : Step) (ss : List Step) → n ≤ k → drop k (replicate n d ++ ss) ≡ drop (k - n) ss
-behind_repeated zero k d ss h = let z : k - 0 ≡ k = omega arith in rw z refl
-behind_repeated (suc n) zero d ss h = absurd (omega arith)
-behind_repeated (suc n) (suc k) d ss h = let z : suc k - suc n ≡ k - n = omega arith in rw z (behind_repeated n k d ss (omega arith))
+after_repeated : (n k : ℕ) (d : Step) (ss : List Step) → n ≤ k → drop k (replicate n d ++ ss) ≡ drop (k - n) ss
+after_repeated zero k d ss h = let z : k - 0 ≡ k = omega arith in rw z refl
+after_repeated (suc n) zero d ss h = absurd (omega arith)
+after_repeated (suc n) (suc k) d ss h = let z : suc k - suc n ≡ k - n = omega arith in rw z (after_repeated n k d ss (omega arith))
 
 pub closing_dedent : (p : LineState) (levels : List ℕ) (n k : ℕ) (e : Entry) → IsAscending 0 levels → length levels ≡ n → k < n
     → mark_at kinds.Dedent p.now.offset (last_place (with_levels p [])) (last_place (with_levels p [])) ≡ steps.Entry e
@@ -189,7 +189,7 @@ pub closing_marker : (p : LineState) (levels : List ℕ) (n k : ℕ) (e : Entry)
     → steps.Entry e ≡ first_step (drop k (closing (with_levels p (0 ∷ levels))))
 closing_marker p levels n k e h c same is =
     let z : k - n ≡ 0 = omega arith in
-    sym (ap (λ ss. first_step (drop k ss)) (closing_steps p levels n h c) ∙ ap first_step (behind_repeated n k _ _ (omega arith))
+    sym (ap (λ ss. first_step (drop k ss)) (closing_steps p levels n h c) ∙ ap first_step (after_repeated n k _ _ (omega arith))
     ∙ ap (λ j. first_step (drop j (mark_at kinds.EndMarker p.now.offset (last_place (with_levels p [])) (last_place (with_levels p []))
     ∷ steps.End ∷ []))) z ∙ is)
 
@@ -197,9 +197,9 @@ pub closing_end : (p : LineState) (levels : List ℕ) (n k : ℕ) → IsAscendin
     → steps.End ≡ first_step (drop k (closing (with_levels p (0 ∷ levels))))
 closing_end p levels n k h c more =
     let z : k - n ≡ suc (k - suc n) = omega arith in
-    sym (ap (λ ss. first_step (drop k ss)) (closing_steps p levels n h c) ∙ ap first_step (behind_repeated n k _ _ (omega arith))
+    sym (ap (λ ss. first_step (drop k ss)) (closing_steps p levels n h c) ∙ ap first_step (after_repeated n k _ _ (omega arith))
     ∙ ap (λ j. first_step (drop j (mark_at kinds.EndMarker p.now.offset (last_place (with_levels p [])) (last_place (with_levels p []))
-    ∷ steps.End ∷ []))) z ∙ behind_end (k - suc n))
+    ∷ steps.End ∷ []))) z ∙ after_end (k - suc n))
 
 -- the line end that the text's end gives has no text
 last_line_end_empty : (s : State) (e : Entry) → last_line_end s ≡ steps.Entry e ∷ [] → e.«from» ≡ e.to

@@ -22,10 +22,10 @@ use Rattle.pylex_lexeme.specs.Lexemes.{Lexeme, lexeme_at, lexeme_len, is_signifi
 use Rattle.pylex_lexeme.specs.declared.lexeme.Class.TheVariants.{Name, Number, String, Operator, Comment, Blanks, LineEnd, Join}
 use Rattle.pylex_listing.specs.Lines.{is_significant}
 use Rattle.pylex_lexeme.specs.Cuts.{Cuts, begins_significant}
-use Rattle.pylex_listing.specs.Machine.{State, after, gives, entry_by, layout_of, remaining, behind_steps, pushed, dedents_at, mark_at}
+use Rattle.pylex_listing.specs.Machine.{State, after, gives, entry_by, layout_of, remaining, after_steps, pushed, dedents_at, mark_at}
 use Rattle.pylex.specs.LineState.{with_levels, measured, given, Stands, HasRoom, Comes, Walks, stays, silent, level, dedent, EntryAhead}
 use Rattle.pylex.specs.LineState.{GivesFault, mismatch, faulty, FaultAhead, IndentAhead, DedentAhead, Peek, Settles, IsIndentation}
-use Rattle.pylex.specs.LineState.{is_level, Behind}
+use Rattle.pylex.specs.LineState.{is_level, Following}
 use Rattle.std.proofs.lemmas.Bool.Decides.{nat_tests}
 use lib.Utf8.{encodes}
 use Rattle.std.specs.Str.{IsUtf8}
@@ -45,13 +45,13 @@ no_significant t = cc
 
 -- before a significant token the layout stands
 measured_by : (fault : Option ListingFault) (s : State) (cs : List ℕ) (o : Option Lexeme) → lexeme_at cs ≡ o → s.margin ≡ true
-    → begins_significant cs ≡ true → remaining fault s cs ≡ behind_steps (layout_of s) (remaining fault (measured s) cs)
+    → begins_significant cs ≡ true → remaining fault s cs ≡ after_steps (layout_of s) (remaining fault (measured s) cs)
 measured_by fault s cs (Some x) e m t = measured_lexeme fault s cs x m e (significant_at cs x t e)
 measured_by fault s (c ∷ cs) None e m t = measured_stop fault s c cs e
 measured_by fault s [] None e m t = no_significant t
 
 pub measured_significant : (fault : Option ListingFault) (s : State) (cs : List ℕ) → s.margin ≡ true → begins_significant cs ≡ true
-    → remaining fault s cs ≡ behind_steps (layout_of s) (remaining fault (measured s) cs)
+    → remaining fault s cs ≡ after_steps (layout_of s) (remaining fault (measured s) cs)
 measured_significant fault s cs m t = measured_by fault s cs (lexeme_at cs) refl m t
 
 -- One lexeme, where no layout is due.
@@ -75,9 +75,9 @@ same_drop zero cs = refl
 same_drop (suc n) [] = refl
 same_drop (suc n) (c ∷ cs) = same_drop n cs
 
--- what is behind the first lexeme
-pub behind_first : (cs b : List ℕ) (x : Lexeme) → lexeme_at cs ≡ Some x → cs ≡ x.text ++ b → drop (lexeme_len cs) cs ≡ b
-behind_first cs b x e p =
+-- what is after the first lexeme
+pub following_first : (cs b : List ℕ) (x : Lexeme) → lexeme_at cs ≡ Some x → cs ≡ x.text ++ b → drop (lexeme_len cs) cs ≡ b
+following_first cs b x e p =
     let f = lexeme_front cs x e in
     same_drop (lexeme_len cs) cs ∙ ap (λ t. drop (length t) cs) (sym f) ∙ ap (drop (length x.text)) p ∙ drop_of x.text b
 
@@ -98,8 +98,8 @@ dedent_step f s cs ls v m t levels less is =
     ∙ dedents-push s.width v ls s.now.offset s.now.place less ∙ ap (λ ss. one ∷ ss) (sym later) in
     let state : measured s ≡ measured r = ap (λ ns. record (measured s) { levels = ns }) (ap (pushed s.width) levels
     ∙ pushed_less s.width v ls less) in
-    measured_significant f s cs m t ∙ ap (λ ss. behind_steps ss (remaining f (measured s) cs)) first
-    ∙ ap (λ u. one ∷ behind_steps (layout_of r) (remaining f u cs)) state ∙ ap (λ ss. one ∷ ss) (sym (measured_significant f r cs m t))
+    measured_significant f s cs m t ∙ ap (λ ss. after_steps ss (remaining f (measured s) cs)) first
+    ∙ ap (λ u. one ∷ after_steps (layout_of r) (remaining f u cs)) state ∙ ap (λ ss. one ∷ ss) (sym (measured_significant f r cs m t))
 
 -- a line of an open level with none above it gives no layout
 level_layout : (s : State) → s.margin ≡ true → is_level s.width s.levels ≡ true → count_by (nat_lt s.width) s.levels ≡ 0 → layout_of s ≡ []
@@ -112,17 +112,17 @@ pub walks_steps : (f : Option ListingFault) (t : State) (ds : List ℕ) (n : ℕ
 walks_steps f t ds n s cs stays = refl
 walks_steps f t ds n s cs (silent m r bs x d e g w) =
     let significant : (s.margin && is_significant x) ≡ false = ap (λ b. s.margin && b) (significant_is cs x e) ∙ d in
-    ap (drop n) (remaining_lexeme f s cs x e ∙ ap (λ ss. behind_steps ss (remaining f (after s x) (drop (lexeme_len cs) cs)))
+    ap (drop n) (remaining_lexeme f s cs x e ∙ ap (λ ss. after_steps ss (remaining f (after s x) (drop (lexeme_len cs) cs)))
     (no_layout s x significant ∙ g))
     ∙ walks_steps f t ds n (after s x) (drop (lexeme_len cs) cs) w
 walks_steps f t ds n s cs (level m r bs a b l c w) =
-    ap (drop n) (measured_significant f s cs a b ∙ ap (λ ss. behind_steps ss (remaining f (measured s) cs)) (level_layout s a l c))
+    ap (drop n) (measured_significant f s cs a b ∙ ap (λ ss. after_steps ss (remaining f (measured s) cs)) (level_layout s a l c))
     ∙ walks_steps f t ds n (measured s) cs w
 walks_steps f t ds n s cs (dedent m r bs ls v a b e l i w) =
     ap (drop (suc m)) (dedent_step f s cs ls v a b e l i)
     ∙ walks_steps f t ds m (record s { levels = ls }) cs w
 
--- one walk behind another
+-- one walk after another
 pub walks_on : (t u : State) (ds es : List ℕ) (m n : ℕ) (s : State) (cs : List ℕ) → Walks t ds m s cs → Walks u es n t ds
     → Walks u es (m + n) s cs
 walks_on t u ds es m n s cs stays v = let z : 0 + n ≡ n = omega arith in rw z v
@@ -161,8 +161,8 @@ finds_on levels p cs q ds (peeked.Entry e) r es c f = record {
   settled = f.settled;
   stands = f.stands;
   own = f.own;
-  behind =
-      f.behind;
+  following =
+      f.following;
   goes = f.goes;
 }
 finds_on levels p cs q ds (peeked.Fault f) r es c g = record {
@@ -227,12 +227,12 @@ fault_given : (levels : List ℕ) (q : LineState) (ds : List ℕ) (f : ListingFa
     → remaining fault (with_levels q (0 ∷ levels)) ds ≡ steps.Fault f ∷ []
 fault_given levels q ds f (mismatch m t a l e) fault =
     let s : State = with_levels q (0 ∷ levels) in
-    measured_significant fault s ds m t ∙ ap (λ ss. behind_steps ss (remaining fault (measured s) ds)) (layout_mismatch s m a l)
+    measured_significant fault s ds m t ∙ ap (λ ss. after_steps ss (remaining fault (measured s) ds)) (layout_mismatch s m a l)
     ∙ ap (λ g. steps.Fault g ∷ []) (sym e)
 fault_given levels q ds f (faulty x d e g) fault =
     let s : State = with_levels q (0 ∷ levels) in
     let significant : (q.margin && is_significant x) ≡ false = ap (λ b. q.margin && b) (significant_is ds x e) ∙ d in
-    remaining_lexeme fault s ds x e ∙ ap (λ ss. behind_steps ss (remaining fault (after s x) (drop (lexeme_len ds) ds)))
+    remaining_lexeme fault s ds x e ∙ ap (λ ss. after_steps ss (remaining fault (after s x) (drop (lexeme_len ds) ds)))
     (no_layout s x significant ∙ g)
 
 pub fault_step : (levels : List ℕ) (p : LineState) (cs : List ℕ) (f : ListingFault) → FaultAhead levels p cs f
@@ -240,10 +240,10 @@ pub fault_step : (levels : List ℕ) (p : LineState) (cs : List ℕ) (f : Listin
 fault_step levels p cs f h fault = same_ahead levels p cs h.there h.before h.comes fault
     ∙ fault_given levels h.there h.before f h.cause fault
 
--- the text behind a lexeme
-cut_behind : (bytes front back : List ℕ) (k : Class) → Cuts bytes k front back → chars back ≡ drop (lexeme_len (chars bytes)) (chars bytes)
-cut_behind bytes front back k c =
-    sym (behind_first (chars bytes) (chars back) (record { «class» = k; text = chars front }) c.lexeme c.whole)
+-- the text after a lexeme
+cut_following : (bytes front back : List ℕ) (k : Class) → Cuts bytes k front back → chars back ≡ drop (lexeme_len (chars bytes)) (chars bytes)
+cut_following bytes front back k c =
+    sym (following_first (chars bytes) (chars back) (record { «class» = k; text = chars front }) c.lexeme c.whole)
 
 pub entry_found : (levels : List ℕ) (p0 : LineState) (cs : List ℕ) (q p r : LineState) (bytes front back : List ℕ) (k : Class) (e : Entry)
     → Comes levels p0 cs q (chars bytes) → Settles levels q (chars bytes) p → Cuts bytes k front back
@@ -258,7 +258,7 @@ entry_found levels p0 cs q p r bytes front back k e came settles c gave is = rec
   settled = settles.settled;
   stands = c.lexeme;
   own = gave (0 ∷ levels);
-  behind = cut_behind bytes front back k c;
+  following = cut_following bytes front back k c;
   goes = is (0 ∷ levels);
 }
 
@@ -273,7 +273,7 @@ nothing_found levels p0 cs q p r bytes front back k came settles c gave is =
     let s : State = with_levels p (0 ∷ levels) in
     let last : Walks t (chars back) 0 (after s x) (drop (lexeme_len (chars bytes)) (chars bytes)) =
     subst (λ (u : State). Walks t (chars back) 0 u (drop (lexeme_len (chars bytes)) (chars bytes))) (is (0 ∷ levels))
-    (subst (λ (es : List ℕ). Walks t (chars back) 0 t es) (cut_behind bytes front back k c) stays) in
+    (subst (λ (es : List ℕ). Walks t (chars back) 0 t es) (cut_following bytes front back k c) stays) in
     comes_on levels p0 cs p (chars bytes) r (chars back) (comes_on levels p0 cs q (chars bytes) p (chars bytes) came settles.comes)
     (record { walks = silent 0 s (chars bytes) x settles.settled c.lexeme (gave (0 ∷ levels)) last })
 
@@ -303,22 +303,22 @@ room_after p r bytes front back k c room n h =
     let e : length bytes + n ≡ length front + (length back + n) = omega arith in
     room (length back + n) (subst (λ (m : ℕ). HasRoom p m) e h)
 
--- what is behind a lexeme is behind what is before it
+-- what is after a lexeme is after what is before it
 cut_bytes : (bytes front back : List ℕ) (k : Class) → IsUtf8 bytes → Cuts bytes k front back → bytes ≡ front ++ back
 cut_bytes bytes front back k u c =
     sym (encodes-chars bytes u) ∙ ap encodes c.whole ∙ encodes-append (chars front) (chars back)
     ∙ ap (λ t. t ++ encodes (chars back)) (encodes-chars front c.front_utf8) ∙ ap (λ t. front ++ t) (encodes-chars back c.back_utf8)
 
-pub behind_cut : (text bytes front back : List ℕ) (k : Class) → IsUtf8 bytes → Cuts bytes k front back
-    → Behind text bytes → Behind text back
-behind_cut text bytes front back k u c b = (
+pub after_cut : (text bytes front back : List ℕ) (k : Class) → IsUtf8 bytes → Cuts bytes k front back
+    → Following text bytes → Following text back
+after_cut text bytes front back k u c b = (
   b.0 ++ front,
   b.1 ∙ ap (λ t. b.0 ++ t) (cut_bytes bytes front back k u c)
       ∙ sym (append_assoc b.0 front back),
 )
 
-pub behind_on : (text bytes back : List ℕ) → Behind text bytes → Behind bytes back → Behind text back
-behind_on text bytes back b c = (b.0 ++ c.0, b.1 ∙ ap (λ t. b.0 ++ t) c.1 ∙ sym (append_assoc b.0 c.0 back))
+pub after_on : (text bytes back : List ℕ) → Following text bytes → Following bytes back → Following text back
+after_on text bytes back b c = (b.0 ++ c.0, b.1 ∙ ap (λ t. b.0 ++ t) c.1 ∙ sym (append_assoc b.0 c.0 back))
 
 -- a lexeme that gives nothing ends no line
 not_line_end : (s : State) (k : Class) (u : List ℕ) → entry_by s (record { «class» = k; text = u }) ≡ [] → is_line_end_class k ≡ false
@@ -332,7 +332,7 @@ not_line_end s Blanks u e = refl
 not_line_end s LineEnd u e = cc
 not_line_end s Join u e = refl
 
--- past it a lister stands behind the margin as it did
+-- past it a lister stands after the margin as it did
 pub margin_past : (p r : LineState) (k : Class) (u : List ℕ) → p.margin ≡ false
     → ((ls : List ℕ) → entry_by (with_levels p ls) (record { «class» = k; text = u }) ≡ given gives.Nothing)
     → ((ls : List ℕ) → with_levels r ls ≡ after (with_levels p ls) (record { «class» = k; text = u })) → r.margin ≡ false

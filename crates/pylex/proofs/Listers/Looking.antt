@@ -123,7 +123,7 @@ above_ready t ds h = record { none = λ m b. by (is_level t.width t.levels) refl
     by true e = let n = level_not_above t.width t.levels e in let bad : true ≡ false = sym h ∙ n in cc
     by false e = refl
 
--- The line of an open level: its DEDENTs, and what is passed behind them.
+-- The line of an open level: its DEDENTs, and what is passed after them.
 record Laid (t : State) (ds : List ℕ) (n : ℕ) (s : State) (cs : List ℕ) : Type 0 where
   more : ℕ
   count : count_by (nat_lt s.width) s.levels + more ≡ n

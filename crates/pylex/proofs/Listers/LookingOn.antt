@@ -1,4 +1,4 @@
--- A machine that looks on stands where it stood, and one that gives a line's layout behind it.
+-- A machine that looks on stands where it stood, and one that gives a line's layout after it.
 --
 -- Carries: Lister::next. On: Finding, Moving.
 use Rattle.std.proofs.Common.{◌≡◌, ℕ, ◌+◌, ◌-◌, ◌<◌, List, length, take, refl, ap, ◌∙◌, sym, subst}

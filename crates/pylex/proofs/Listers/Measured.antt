@@ -1,6 +1,6 @@
 -- The layout before the first significant token of a logical line, and what follows it.
 --
--- Carries: stop_within, remaining_lexeme, behind_steps-append and 3 more, for
+-- Carries: stop_within, remaining_lexeme, after_steps-append and 3 more, for
 -- Finding, Ending, Passing, Carried and 3 more. On: Steps, Run, Full.
 use Rattle.std.proofs.Common.{◌≡◌, ℕ, ◌<◌, true, false, ◌==◌, List, [], ◌∷◌, ◌++◌, length, take, drop, refl, ap, ◌∙◌, sym, subst, arith}
 use Rattle.std.proofs.Common.{Option, Some, None}
@@ -15,7 +15,7 @@ use Rattle.pylex_lexeme.specs.Lexemes.{Lexeme, lexeme_at, lexeme_len}
 use Rattle.pylex_listing.specs.Lines.{is_significant}
 use Rattle.pylex_lexeme.specs.Chars.{bytes_in}
 use Rattle.pylex_listing.specs.Listing.{stop_fault, up_to_end}
-use Rattle.pylex_listing.specs.Machine.{State, after, gives, entry_by, layout_of, stop_of, remaining, behind_steps}
+use Rattle.pylex_listing.specs.Machine.{State, after, gives, entry_by, layout_of, stop_of, remaining, after_steps}
 use Rattle.pylex.specs.LineState.{measured}
 use Rattle.pylex_listing.proofs.Callers.{up_to_end-append, lexeme_full, lexeme_front}
 use Rattle.pylex.proofs.MachineLaws.Steps.{remaining_step, remaining_stop}
@@ -33,7 +33,7 @@ after_measured s Blanks t m e = cc
 after_measured s Comment t m e = cc
 after_measured s LineEnd t m e = cc
 
--- and what it gives comes behind the layout
+-- and what it gives comes after the layout
 pub gives_measured : (s : State) (k : Class) (t : List ℕ) → s.margin ≡ true → is_significant (record { «class» = k; text = t }) ≡ true
     → gives s (record { «class» = k; text = t }) ≡ layout_of s ++ gives (measured s) (record { «class» = k; text = t })
 unfolding gives entry_by layout_of
@@ -46,11 +46,11 @@ gives_measured s Blanks t m e = cc
 gives_measured s Comment t m e = cc
 gives_measured s LineEnd t m e = cc
 
-pub behind_steps-append : (a b c : List Step) → behind_steps (a ++ b) c ≡ behind_steps a (behind_steps b c)
-behind_steps-append [] b c = refl
-behind_steps-append (steps.Entry e ∷ a) b c = ap (λ ss. steps.Entry e ∷ ss) (behind_steps-append a b c)
-behind_steps-append (steps.End ∷ a) b c = refl
-behind_steps-append (steps.Fault f ∷ a) b c = refl
+pub after_steps-append : (a b c : List Step) → after_steps (a ++ b) c ≡ after_steps a (after_steps b c)
+after_steps-append [] b c = refl
+after_steps-append (steps.Entry e ∷ a) b c = ap (λ ss. steps.Entry e ∷ ss) (after_steps-append a b c)
+after_steps-append (steps.End ∷ a) b c = refl
+after_steps-append (steps.Fault f ∷ a) b c = refl
 
 full_length : (t : List ℕ) → 0 < bytes_in t → 0 < length t
 full_length [] h = absurd (omega (arith, no_bytes))
@@ -61,7 +61,7 @@ full_length (c ∷ t) h = omega arith
 
 -- one lexeme off the front of what is left to list
 pub remaining_lexeme : (fault : Option ListingFault) (s : State) (cs : List ℕ) (x : Lexeme) → lexeme_at cs ≡ Some x
-    → remaining fault s cs ≡ behind_steps (gives s x) (remaining fault (after s x) (drop (lexeme_len cs) cs))
+    → remaining fault s cs ≡ after_steps (gives s x) (remaining fault (after s x) (drop (lexeme_len cs) cs))
 remaining_lexeme fault s cs x e =
     let front = take (lexeme_len cs) cs in
     let back = drop (lexeme_len cs) cs in
@@ -74,19 +74,19 @@ remaining_lexeme fault s cs x e =
 -- a lexeme, its class and text apart
 measured_at : (fault : Option ListingFault) (s : State) (cs : List ℕ) (k : Class) (t : List ℕ) → s.margin ≡ true
     → lexeme_at cs ≡ Some (record { «class» = k; text = t }) → is_significant (record { «class» = k; text = t }) ≡ true
-    → remaining fault s cs ≡ behind_steps (layout_of s) (remaining fault (measured s) cs)
+    → remaining fault s cs ≡ after_steps (layout_of s) (remaining fault (measured s) cs)
 measured_at fault s cs k t m e h =
     let x : Lexeme = record { «class» = k; text = t } in
     let back = drop (lexeme_len cs) cs in
     remaining_lexeme fault s cs x e
-    ∙ ap (λ ss. behind_steps ss (remaining fault (after s x) back)) (gives_measured s k t m h)
-    ∙ behind_steps-append (layout_of s) (gives (measured s) x) (remaining fault (after s x) back)
-    ∙ ap (λ r. behind_steps (layout_of s) (behind_steps (gives (measured s) x) (remaining fault r back))) (sym (after_measured s k t m h))
-    ∙ ap (behind_steps (layout_of s)) (sym (remaining_lexeme fault (measured s) cs x e))
+    ∙ ap (λ ss. after_steps ss (remaining fault (after s x) back)) (gives_measured s k t m h)
+    ∙ after_steps-append (layout_of s) (gives (measured s) x) (remaining fault (after s x) back)
+    ∙ ap (λ r. after_steps (layout_of s) (after_steps (gives (measured s) x) (remaining fault r back))) (sym (after_measured s k t m h))
+    ∙ ap (after_steps (layout_of s)) (sym (remaining_lexeme fault (measured s) cs x e))
 
 -- before a significant token that is a lexeme
 pub measured_lexeme : (fault : Option ListingFault) (s : State) (cs : List ℕ) (x : Lexeme) → s.margin ≡ true → lexeme_at cs ≡ Some x
-    → is_significant x ≡ true → remaining fault s cs ≡ behind_steps (layout_of s) (remaining fault (measured s) cs)
+    → is_significant x ≡ true → remaining fault s cs ≡ after_steps (layout_of s) (remaining fault (measured s) cs)
 measured_lexeme fault s cs x m e h = measured_at fault s cs x.«class» x.text m e h
 
 -- where the cut stops within the text
@@ -104,15 +104,15 @@ layout_measured s = refl
 
 -- before a stop within the text
 pub measured_stop : (fault : Option ListingFault) (s : State) (c : ℕ) (cs : List ℕ) → lexeme_at (c ∷ cs) ≡ None
-    → remaining fault s (c ∷ cs) ≡ behind_steps (layout_of s) (remaining fault (measured s) (c ∷ cs))
+    → remaining fault s (c ∷ cs) ≡ after_steps (layout_of s) (remaining fault (measured s) (c ∷ cs))
 measured_stop fault s c cs e =
     let last = stop_fault fault s.now.place (c ∷ cs) ∷ [] in
     remaining_stop fault s (c ∷ cs) e
     ∙ ap up_to_end (stop_within fault s c cs)
     ∙ up_to_end-append (layout_of s) last
-    ∙ ap (λ ss. behind_steps (layout_of s) (up_to_end ss))
+    ∙ ap (λ ss. after_steps (layout_of s) (up_to_end ss))
     (sym (stop_within fault (measured s) c cs ∙ ap (λ ss. ss ++ last) (layout_measured s) ∙ nil_append last))
-    ∙ ap (behind_steps (layout_of s)) (sym (remaining_stop fault (measured s) (c ∷ cs) e))
+    ∙ ap (after_steps (layout_of s)) (sym (remaining_stop fault (measured s) (c ∷ cs) e))
   where
     nil_append : (ss : List Step) → [] ++ ss ≡ ss
     nil_append ss = refl

@@ -42,7 +42,7 @@ use Rattle.pylex.proofs.Resumption.Cursoring.{after_first, encoding_first, stand
 use Rattle.pylex.proofs.Listing.Counts.{given_within}
 use Rattle.pylex.proofs.Resumption.Skips.{skip_within}
 use Rattle.pylex.proofs.Resumption.CursorBounds.{shown_fits}
-use Rattle.pylex.proofs.Callers.{is_behind}
+use Rattle.pylex.proofs.Callers.{is_following}
 
 -- The first of some steps is the one at its place.
 pub first_at : (ss : List Step) (k : ℕ) → k < length ss → slice_get ss k ≡ Some (first_step (drop k ss))
@@ -57,7 +57,7 @@ length_whole (e ∷ es) last = ap suc (length_whole es last)
 pub listing_length : (a : Source) → length (listing a) ≡ suc (length (entries_of (listing a)))
 listing_length a = let w = is_whole a in ap length w.whole ∙ length_whole (entries_of (listing a)) w.last
 
--- In each source in which a lister stands, a step comes first, and another lister stands behind it.
+-- In each source in which a lister stands, a step comes first, and another lister stands after it.
 abbrev pub Leads : Listed → Step → Listed → Type 0
 Leads old step new = (a : Source) → StandsIn old a old.shown.given → (first_step (rest a old.shown.given) ≡ step) × StandsIn new a
     (old.shown.given + entries_in step)
@@ -66,7 +66,7 @@ pub leads_moves : (old : Listed) (step : Step) (new : Listed) → Leads old step
 leads_moves old step new f a k h =
     let c = h.count in
     let g = f a (record { cursor = h.cursor; count = refl; agrees = h.agrees }) in
-    let w = (is_behind h.cursor).within in
+    let w = (is_following h.cursor).within in
     let l = listing_length a in
     let first : first_step (rest a k) ≡ step = ap (λ n. first_step (rest a n)) (sym c) ∙ g.0 in (
       first_at (listing a) k (omega arith) ∙ ap Some first,
@@ -200,7 +200,7 @@ module _ (l : Listed) (p : LineState) (left levels : List ℕ) (nested tail : �
         let t : State = with_levels h.there (0 ∷ take nested levels) in
         let i = in_after source.text t h.before h.lexeme h.stands (is_there h.there h.before h.comes) in
         subst (λ (s : State). IsIn source.text s ds) (sym h.goes)
-        (subst (λ (es : List ℕ). IsIn source.text (after t h.lexeme) es) (sym h.behind) i)
+        (subst (λ (es : List ℕ). IsIn source.text (after t h.lexeme) es) (sym h.following) i)
 
     -- An INDENT.
     indent_passes : (q : LineState) (ds : List ℕ) → Comes (take nested levels) p (chars left) q ds → IndentAhead (take nested levels) q ds
@@ -294,7 +294,7 @@ module _ (l : Listed) (p : LineState) (left levels : List ℕ) (nested tail : �
       let ss = remaining source.fault (with_levels q (0 ∷ take nested levels)) ds in
       let same : rest a l.shown.given ≡ drop tail ss = rest_left a s
       ∙ ap (drop tail) (same_ahead (take nested levels) p (chars left) q ds c source.fault) in
-      let within = (is_behind s.cursor).within in
+      let within = (is_following s.cursor).within in
       let left_over : length (rest a l.shown.given) + l.shown.given ≡ length (listing a) =
       drop_length (listing a) l.shown.given (omega (arith, within, listing_length a)) in
       let there_too : length (drop tail ss) ≡ length ss - tail = length-drop tail ss in
@@ -330,13 +330,13 @@ module _ (l : Listed) (p : LineState) (left levels : List ℕ) (nested tail : �
       → IsIn source.text (with_levels q (0 ∷ take nested levels)) ds
   stop_in q ds c = is_there q ds c
 
--- Directly behind an entry with text.
-pub keeps_behind : (l : Listed) (q r : LineState) (left ls : List ℕ) (nested tail : ℕ) → IsUtf8 l.source.text
+-- Directly after an entry with text.
+pub keeps_after : (l : Listed) (q r : LineState) (left ls : List ℕ) (nested tail : ℕ) → IsUtf8 l.source.text
     → length l.source.text ≤ source_limit → (a : Source) × StandsIn l a l.shown.given
     → l.shown ≡ shown_at l.shown.given (with_levels q (0 ∷ ls)) → Stands r left → IsAscending 0 ls → nested ≡ length ls → tail ≡ 0
     → IsIn (chars l.source.text) (with_levels q (0 ∷ ls)) (chars left) → ((ns : List ℕ) → with_levels r ns ≡ begun_anew (with_levels q ns))
     → Keeps l r left ls nested tail
-keeps_behind l q r left ls nested tail utf8 small stood is stands ascending n z i anew =
+keeps_after l q r left ls nested tail utf8 small stood is stands ascending n z i anew =
     let a : Source = in_characters l.source in
     let s : State = with_levels q (0 ∷ ls) in
     let o : l.shown.offset ≡ s.now.offset = ap (λ (c : CursorParts). c.offset) is in
@@ -395,12 +395,12 @@ came_same a c k n t ds m w =
     ∙ same_start c k n (standing_by a d).line)
     (subst (λ (es : List ℕ). Walks t ds m (resumed c (standing_by a c).line) es) (same_left a c k n) w)
 
--- A lister goes on by a step: it stands behind it, and keeps what it has to.
+-- A lister goes on by a step: it stands after it, and keeps what it has to.
 pub record Advances (old : Listed) (step : Step) (new : Listed) (r : LineState) (left ls : List ℕ) (nested tail : ℕ) : Type 0 where
   pub leads : Leads old step new
   pub keeps : Keeps new r left ls nested tail
 
--- The state behind an entry with text has the room that is left.
+-- The state after an entry with text has the room that is left.
 anew_stands : (q r : LineState) (ds : List ℕ) → ((n : ℕ) → HasRoom q n → HasRoom r n) → Stands q ds → Stands r ds
 anew_stands q r ds room h = record { utf8 = h.utf8; room = room (length ds) h.room }
 
@@ -448,7 +448,7 @@ module _ (l : Listed) (p : LineState) (left levels : List ℕ) (nested tail : �
       let ascending : IsAscending 0 ls = subst (IsAscending 0) (sym is) (ascending-take 0 nested levels keeps.ascending) in
       record {
         leads = leads;
-        keeps = keeps_behind new q r ds ls nested tail keeps.utf8 keeps.small (leads_stood l (steps.Entry e) new leads refl keeps.stood)
+        keeps = keeps_after new q r ds ls nested tail keeps.utf8 keeps.small (leads_stood l (steps.Entry e) new leads refl keeps.stood)
             shown (anew_stands q r ds room stands) ascending (sym counted) none
             (subst (λ (ns : List ℕ). IsIn (chars l.source.text) (with_levels q (0 ∷ ns)) (chars ds)) (sym is)
             (entry_in l p left levels nested tail keeps skips some none e q (chars ds) h)) anew;
@@ -474,7 +474,7 @@ module _ (l : Listed) (p : LineState) (left levels : List ℕ) (nested tail : �
       (ascending-push 0 q.width (take nested levels) (ascending-take 0 nested levels keeps.ascending) h.above) in
       record {
         leads = leads;
-        keeps = keeps_behind new m r ds ls count tail keeps.utf8 keeps.small (leads_stood l (steps.Entry e) new leads refl keeps.stood)
+        keeps = keeps_after new m r ds ls count tail keeps.utf8 keeps.small (leads_stood l (steps.Entry e) new leads refl keeps.stood)
             shown (anew_stands m r ds room_anew (anew_stands q m ds room stands)) ascending counted none
             (indent_in l p left levels nested tail keeps skips some none q m (chars ds) ls c h measures is) anew;
       }
@@ -588,7 +588,7 @@ keeps_first source p point ls utf8 small e first at =
     let offset : p.now.offset ≡ 0 = ap (λ (s : State). s.now.offset) first in
     let depth : p.depth ≡ 0 = ap (λ (s : State). s.depth) first in
     let width : p.width ≡ 0 = ap (λ (s : State). s.width) first in
-    keeps_behind (record { source = source; shown = shown_by 0 point ls ((length ls - 0) + 0) }) p p source.text ls 0 0 utf8 small
+    keeps_after (record { source = source; shown = shown_by 0 point ls ((length ls - 0) + 0) }) p p source.text ls 0 0 utf8 small
     (in_characters source, shown_first source p point ls e first at)
     (ap (shown_by 0 point ls) no_skip ∙ at 0 ls)
     (record {

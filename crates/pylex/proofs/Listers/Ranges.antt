@@ -82,8 +82,8 @@ entry_range levels p cs e q ds h =
     let s : State = with_levels h.there (0 ∷ levels) in
     let own = own_spans s h.lexeme e h.own in
     let came = walks_further s h.before 0 (with_levels p (0 ∷ levels)) cs h.comes.walks in
-    let behind : q.now.offset ≡ s.now.offset + bytes_in h.lexeme.text = ap (λ (r : State). r.now.offset) h.goes ∙ offset_after s h.lexeme in
-    (omega arith, own.ends ∙ sym behind)
+    let following : q.now.offset ≡ s.now.offset + bytes_in h.lexeme.text = ap (λ (r : State). r.now.offset) h.goes ∙ offset_after s h.lexeme in
+    (omega arith, own.ends ∙ sym following)
 
 -- What is left of a text, by where a state stands in it.
 pub in_offset : (text : List ℕ) (s : State) (ds : List ℕ) → IsIn text s ds → s.now.offset + bytes_in ds ≡ bytes_in text
@@ -142,7 +142,7 @@ pub measuring_comes : (levels : List ℕ) (p : LineState) (cs : List ℕ) (q : L
     → IsMeasuring p → IsMeasuring q
 measuring_comes levels p cs q ds c h = measuring_walks (with_levels q (0 ∷ levels)) ds 0 (with_levels p (0 ∷ levels)) cs c.walks h
 
--- behind an entry and at a text's front the line begins here
+-- after an entry and at a text's front the line begins here
 pub measuring_anew : (q r : LineState) → ((ns : List ℕ) → with_levels r ns ≡ begun_anew (with_levels q ns)) → IsMeasuring r
 measuring_anew q r f m =
     let now : r.now.offset ≡ q.now.offset = ap (λ (s : State). s.now.offset) (f []) in
@@ -152,7 +152,7 @@ measuring_anew q r f m =
 pub measuring_start : (p : LineState) → with_levels p (0 ∷ []) ≡ first_state → IsMeasuring p
 measuring_start p f m = let now : p.now.offset ≡ 0 = ap (λ (s : State). s.now.offset) f in omega arith
 
--- The line of a state begins behind whole lines before it.
+-- The line of a state begins after whole lines before it.
 pub advance_column : (p : Place) (t : List ℕ) → (place_past p t).column ≤ p.column + length t
 advance_column p [] = omega arith
 advance_column p (c ∷ t) = ⊎_elim
@@ -166,7 +166,7 @@ unfolding place_after
 line_begins before (inl e) = ap (λ t. (place_after t).column) e
 line_begins before (inr l) = ap (λ t. (place_after t).column) l.1 ∙ ap (λ (p : Place). p.column) (place_after-append l.0 (10 ∷ []))
 
--- of two fronts of a text, the one with no more behind it goes on from the other
+-- of two fronts of a text, the one with no more after it goes on from the other
 goes_on_from : (before front rest ds : List ℕ) → before ++ rest ≡ front ++ ds → bytes_in ds ≤ bytes_in rest
     → (more : List ℕ) × (front ≡ before ++ more)
 goes_on_from [] front rest ds e h = (front, refl)

@@ -25,7 +25,7 @@ use Rattle.pylex_listing.specs.Lines.{is_significant}
 use Rattle.pylex_listing.specs.Listing.{Source, origin, up_to_end, stop_fault}
 use Rattle.pylex_listing.specs.Steps.{entries_of, fault_of, mark}
 use Rattle.pylex_listing.specs.Laws.{is_indent, is_dedent, ClosesBlocks}
-use Rattle.pylex_listing.specs.Machine.{State, behind, pushed, after, dedents_at, mark_at, line_end_kind_of, layout_of, entry_by, gives}
+use Rattle.pylex_listing.specs.Machine.{State, following, pushed, after, dedents_at, mark_at, line_end_kind_of, layout_of, entry_by, gives}
 use Rattle.pylex_listing.specs.Machine.{is_hash, last_line_end, last_place, tail_of, stop_of, run, remaining, first_state}
 use Rattle.pylex_listing.proofs.Callers.{listing_is}
 use Rattle.pylex.proofs.Listing.Ends.{stop_is_fault}
@@ -129,16 +129,16 @@ pushed_apart w levels a = record {
     at_ground : (n : ℕ) → n ≡ 1 → cond (nat_lt 0 w) n 0 + cond (w == 0) 1 0 ≡ 1
     at_ground n h = grind (arith, nat_tests)
 
--- what holds of so many open blocks, behind an entry of a kind
-abbrev Behind : (ℕ → Type 0) → ℕ → Kind → Type 0
-Behind P n kinds.Indent = P (n + 1)
-Behind P n kinds.Dedent = (0 < n) × P (n - 1)
-Behind P n _ = P n
+-- what holds of so many open blocks, after an entry of a kind
+abbrev Following : (ℕ → Type 0) → ℕ → Kind → Type 0
+Following P n kinds.Indent = P (n + 1)
+Following P n kinds.Dedent = (0 < n) × P (n - 1)
+Following P n _ = P n
 
 -- steps that open and close blocks, where so many are open
 abbrev Nested : ℕ → List Step → Type 0
 Nested n [] = ⊥
-Nested n (steps.Entry e ∷ ss) = Behind (λ m. Nested m ss) n e.kind
+Nested n (steps.Entry e ∷ ss) = Following (λ m. Nested m ss) n e.kind
 Nested n (steps.End ∷ ss) = n ≡ 0
 Nested n (steps.Fault f ∷ ss) = Unit {0}
 
@@ -206,9 +206,9 @@ entry_nested s x n ss h = by_class x.«class» x.text
       kind = line_end_kind_of s;
       exact = None;
       start = s.now.place;
-      «end» = (behind s.now t).place;
+      «end» = (following s.now t).place;
       «from» = s.now.offset;
-      to = (behind s.now t).offset;
+      to = (following s.now t).offset;
     }) refl
     by_class Join t = h
 
@@ -295,7 +295,7 @@ one_closing e ss n m c h = record {
         let g = c.within k in omega arith
 
 by_kind : (e : Entry) (ss : List Step) (n : ℕ) (k : Kind) → e.kind ≡ k → ((m : ℕ) → Nested m ss → Closing m (up_to_end ss))
-    → Behind (λ m. Nested m ss) n k → Closing n (steps.Entry e ∷ up_to_end ss)
+    → Following (λ m. Nested m ss) n k → Closing n (steps.Entry e ∷ up_to_end ss)
 by_kind e ss n kinds.Indent k f h = one_closing e (up_to_end ss) n (n + 1) (f (n + 1) h) (rw k (omega arith))
 by_kind e ss n kinds.Dedent k f h = let p : 0 < n = h.0 in one_closing e (up_to_end ss) n (n - 1) (f (n - 1) h.1) (rw k (omega arith))
 by_kind e ss n kinds.Encoding k f h = one_closing e (up_to_end ss) n n (f n h) (rw k (omega arith))

@@ -32,7 +32,7 @@ use Rattle.pylex_listing.proofs.Callers.{bytes_in-append, listing_is, lexeme_ful
 use Rattle.pylex.proofs.Listing.Ends.{stop_is_fault}
 use Rattle.pylex.proofs.Listing.Blocks.{three_ways, some_at, pushed_length}
 use Rattle.pylex.proofs.Resumption.CursorBounds.{text_length}
-use Rattle.pylex.proofs.Callers.{is_behind}
+use Rattle.pylex.proofs.Callers.{is_following}
 
 abbrev many : List Step → ℕ
 many ss = length (entries_of ss)
@@ -58,15 +58,15 @@ many_marks zero e = refl
 many_marks (suc n) e = let h = many_marks n e in omega arith
 
 -- a layout opens one level, or closes as many as it gives DEDENTs
-abbrev levels_behind : State → List ℕ
-levels_behind s = cond s.margin (pushed s.width s.levels) s.levels
+abbrev levels_after : State → List ℕ
+levels_after s = cond s.margin (pushed s.width s.levels) s.levels
 
 laid_many : (s : State) (ss : List Step) → s.margin ≡ true → layout_of s ≡ ss → many ss + length (pushed s.width s.levels) ≤ length s.levels
-    + 2 → many (layout_of s) + length (levels_behind s) ≤ length s.levels + 2
-laid_many s ss m e h = let l : length (levels_behind s) ≡ length (pushed s.width s.levels) =
+    + 2 → many (layout_of s) + length (levels_after s) ≤ length s.levels + 2
+laid_many s ss m e h = let l : length (levels_after s) ≡ length (pushed s.width s.levels) =
     ap (λ b. length (cond b (pushed s.width s.levels) s.levels)) m in let n : many (layout_of s) ≡ many ss = ap many e in omega arith
 
-layout_many : (s : State) → many (layout_of s) + length (levels_behind s) ≤ length s.levels + 2
+layout_many : (s : State) → many (layout_of s) + length (levels_after s) ≤ length s.levels + 2
 layout_many s = ⊎_elim
     (λ (m : s.margin ≡ true).
     let l = pushed_length s.width s.levels in
@@ -84,7 +84,7 @@ layout_many s = ⊎_elim
     (cases_Bool (is_above s.width s.levels)))
     (λ (m : s.margin ≡ false).
     let n : many (layout_of s) ≡ 0 = ap many (settled_layout s m) in
-    let l : length (levels_behind s) ≡ length s.levels = ap (λ b. length (cond b (pushed s.width s.levels) s.levels)) m in
+    let l : length (levels_after s) ≡ length s.levels = ap (λ b. length (cond b (pushed s.width s.levels) s.levels)) m in
     omega arith)
     (cases_Bool s.margin)
 
@@ -113,7 +113,7 @@ gives_many s x = by_significant (is_significant x)
         let a = many-append (layout_of s) (entry_by s x) in
         let l = layout_many s in
         let e = entry_many s x in
-        let m : length (cond (s.margin && true) (pushed s.width s.levels) s.levels) ≡ length (levels_behind s) =
+        let m : length (cond (s.margin && true) (pushed s.width s.levels) s.levels) ≡ length (levels_after s) =
         ap (λ b. length (cond b (pushed s.width s.levels) s.levels)) (and-true s.margin) in
         omega arith
     by_significant false =
@@ -187,5 +187,5 @@ given_within l a k u h =
     let e = entries_within a in
     let t = text_length l a k u h in
     let c = h.count in
-    let w = (is_behind h.cursor).within in
+    let w = (is_following h.cursor).within in
     omega arith

@@ -23,7 +23,7 @@ use Rattle.pylex_listing.specs.Lines.{is_of_blanks, is_of_line_end, is_significa
 use Rattle.pylex_lexeme.specs.Chars.{bytes_in}
 use Rattle.pylex_listing.specs.Listing.{Source, origin, up_to_end, stop_fault}
 use Rattle.pylex_listing.specs.Steps.{entries_of, fault_of, mark}
-use Rattle.pylex_listing.specs.Machine.{State, past, behind, after, dedents_at, mark_at, step_of, layout_of, entry_by, gives, is_hash}
+use Rattle.pylex_listing.specs.Machine.{State, past, following, after, dedents_at, mark_at, step_of, layout_of, entry_by, gives, is_hash}
 use Rattle.pylex_listing.specs.Machine.{last_line_end, last_place, tail_of, stop_of, run, remaining, first_state}
 use Rattle.pylex_listing.specs.Laws.{AreLexemes, IsGap, StandsNext, Covers, IsCovered}
 use Rattle.pylex_listing.proofs.Callers.{bytes_in-append, listing_is, cut_lexed}
@@ -70,15 +70,15 @@ join_gap cs x e k = gap_of x.text
 -- steps whose entries cover a text that begins at an offset
 abbrev Spans : ℕ → List ℕ → List Step → Type 0
 Spans n text [] = ⊥
-Spans n text (steps.Entry e ∷ ss) = (next : StandsNext n text e) × Spans e.to next.behind ss
+Spans n text (steps.Entry e ∷ ss) = (next : StandsNext n text e) × Spans e.to next.following ss
 Spans n text (steps.End ∷ ss) = IsGap text
 Spans n text (steps.Fault f ∷ ss) = Unit {0}
 
--- an entry's text behind a gap
-spans_piece : (n : ℕ) (gap own behind : List ℕ) (e : Entry) (ss : List Step) → IsGap gap → e.«from» ≡ n + bytes_in gap
-    → e.to ≡ e.«from» + bytes_in own → Spans e.to behind ss → Spans n (gap ++ (own ++ behind)) (steps.Entry e ∷ ss)
-spans_piece n gap own behind e ss g b t h =
-    (record { gap = gap; own = own; behind = behind; is_gap = g; parts = refl; begins = b; ends = t }, h)
+-- an entry's text after a gap
+spans_piece : (n : ℕ) (gap own following : List ℕ) (e : Entry) (ss : List Step) → IsGap gap → e.«from» ≡ n + bytes_in gap
+    → e.to ≡ e.«from» + bytes_in own → Spans e.to following ss → Spans n (gap ++ (own ++ following)) (steps.Entry e ∷ ss)
+spans_piece n gap own following e ss g b t h =
+    (record { gap = gap; own = own; following = following; is_gap = g; parts = refl; begins = b; ends = t }, h)
 
 -- what was given up to a state: an end, and the gap since then, which is the line's
 -- begin so far at its margin
@@ -269,7 +269,7 @@ run_spans fault left (x ∷ xs) s text h n gap l =
 covered : (ss : List Step) (n : ℕ) (text : List ℕ) → Spans n text ss → (left : List ℕ) × Covers n text (entries_of (up_to_end ss)) left ×
     (fault_of (up_to_end ss) ≡ None → left ≡ [])
 covered [] n text h = absurd h
-covered (steps.Entry e ∷ ss) n text h = let c = covered ss e.to h.0.behind h.1 in (c.0, (h.0, c.1), c.2)
+covered (steps.Entry e ∷ ss) n text h = let c = covered ss e.to h.0.following h.1 in (c.0, (h.0, c.1), c.2)
 covered (steps.End ∷ ss) n text h = ([], (text, h, sym (append-nil text)), λ _. refl)
 covered (steps.Fault f ∷ ss) n text h = (text, ([], no_gap, refl), λ e. cc)
 
@@ -278,7 +278,7 @@ begins_left = record { is_gap = no_gap; now = omega arith; line = λ _. refl }
 
 encoding_next : (text : List ℕ)
     → StandsNext 0 text (record { kind = kinds.Encoding; exact = None; start = origin; «end» = origin; «from» = 0; to = 0 })
-encoding_next text = record { gap = []; own = []; behind = text; is_gap = no_gap; parts = refl; begins = omega arith; ends = omega arith }
+encoding_next text = record { gap = []; own = []; following = text; is_gap = no_gap; parts = refl; begins = omega arith; ends = omega arith }
 
 pub is_covered : (s : Source) → IsCovered s
 unfolding remaining encoding_next

@@ -60,12 +60,12 @@ NoEnd-append (steps.Entry e ∷ a) b h k = NoEnd-append a b h k
 NoEnd-append (steps.End ∷ a) b h k = h
 NoEnd-append (steps.Fault f ∷ a) b h k = NoEnd-append a b h k
 
--- steps that stop, behind others
-behind : (a b : List Step) → NoEnd a → Stops b → Stops (a ++ b)
-behind [] b n h = h
-behind (steps.Entry e ∷ a) b n h = goes_on (behind a b n h)
-behind (steps.Fault f ∷ a) b n h = fault
-behind (steps.End ∷ a) b n h = absurd n
+-- steps that stop, after others
+following : (a b : List Step) → NoEnd a → Stops b → Stops (a ++ b)
+following [] b n h = h
+following (steps.Entry e ∷ a) b n h = goes_on (following a b n h)
+following (steps.Fault f ∷ a) b n h = fault
+following (steps.End ∷ a) b n h = absurd n
 
 cond_no_end : (b : Bool) (ss ts : List Step) → NoEnd ss → NoEnd ts → NoEnd (cond b ss ts)
 cond_no_end true ss ts h k = h
@@ -118,7 +118,7 @@ tail_stops : (s : State) → Stops (tail_of s)
 unfolding tail_of last_line_end
 tail_stops s =
     cond_stops (not (s.depth == 0) || s.joined) _ _ fault
-    (behind (last_line_end s ++ dedents_at 0 s.levels s.now.offset (last_place s)) _
+    (following (last_line_end s ++ dedents_at 0 s.levels s.now.offset (last_place s)) _
     (NoEnd-append (last_line_end s) _
     (cond_no_end s.logical _ _ (cond_no_end (is_hash s.lead) [] _ tt tt) (cond_no_end s.margin [] _ tt tt))
     (dedents_no_end 0 s.levels s.now.offset (last_place s)))
@@ -128,7 +128,7 @@ stop_stops : (o : Option ListingFault) (left : List ℕ) (s : State) → Stops (
 unfolding stop_of
 stop_stops o left s =
     cond_stops (not (length left == 0)) _ _
-    (behind (layout_of s) _ (layout_no_end s) (let f = stop_is_fault o s.now.place left in
+    (following (layout_of s) _ (layout_no_end s) (let f = stop_is_fault o s.now.place left in
     subst (λ (g : Step). Stops (g ∷ [])) (sym f.1) fault))
     (by_fault o)
   where
@@ -138,7 +138,7 @@ stop_stops o left s =
 
 run_stops : (o : Option ListingFault) (left : List ℕ) (xs : List Lexeme) (s : State) → Stops (run o left s xs)
 run_stops o left [] s = stop_stops o left s
-run_stops o left (x ∷ xs) s = behind (gives s x) _ (gives_no_end s x) (run_stops o left xs (after s x))
+run_stops o left (x ∷ xs) s = following (gives s x) _ (gives_no_end s x) (run_stops o left xs (after s x))
 
 -- steps up to the first that is no entry
 record Closed (ss : List Step) : Type 0 where

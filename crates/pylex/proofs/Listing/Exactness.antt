@@ -34,7 +34,7 @@ use Rattle.pylex_listing.specs.Listing.{line_end_of_last, end_place, ends_in_joi
 use Rattle.pylex_listing.specs.Steps.{entries_of, mark, fault_at}
 use Rattle.pylex_listing.specs.Laws.{AreLexemes, HasExact, HaveExact}
 use Rattle.pylex_listing.proofs.Callers.{cut_lexed, lexeme_class, drop_of, scalars_of}
-use Rattle.pylex.proofs.Listing.Lying.{scalars_behind}
+use Rattle.pylex.proofs.Listing.Lying.{scalars_after}
 
 -- what stands between the offsets of a piece is its text
 take_whole : (a b : List ℕ) → take (length a) (a ++ b) ≡ a
@@ -56,7 +56,7 @@ own_text a t b first last good begins ends =
     ∙ ap (take (last - first)) (drop_of front (own ++ rest))
     ∙ ap (λ (n : ℕ). take n (own ++ rest)) size
     ∙ take_whole own rest in
-    let scalars = scalars_of t b (scalars_behind a (t ++ b) good) in
+    let scalars = scalars_of t b (scalars_after a (t ++ b) good) in
     ap chars between ∙ sym (chars_from_encodes t own (t, (scalars, refl)) refl)
 
 -- the class of an operator is by the exact type of its text
@@ -131,7 +131,7 @@ line_end_has : (b : Bool) (x : Option Exact) → None ≡ exact_by x (cond b kin
 line_end_has true x = refl
 line_end_has false x = refl
 
--- the steps before and behind a place
+-- the steps before and after a place
 module _ (cs : List ℕ) (before : List Lexeme) where
   layout_have : AllHave cs (layout before)
   unfolding layout layout_by

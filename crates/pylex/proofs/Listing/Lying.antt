@@ -31,10 +31,10 @@ use Rattle.pylex_listing.specs.Steps.{mark, fault_at}
 use Rattle.pylex_listing.specs.Laws.{LiesIn, StepLies, AllLie, AreLexemes}
 use Rattle.pylex_listing.proofs.Callers.{bytes_in-append, line_split, cut_lexed}
 
--- what is behind a place is text, and so the place may be cut at
-pub scalars_behind : (a b : List ℕ) → all_scalars (a ++ b) ≡ true → all_scalars b ≡ true
-scalars_behind [] b h = h
-scalars_behind (c ∷ a) b h = scalars_behind a b (later (scalar c) (all_scalars (a ++ b)) h)
+-- what is after a place is text, and so the place may be cut at
+pub scalars_after : (a b : List ℕ) → all_scalars (a ++ b) ≡ true → all_scalars b ≡ true
+scalars_after [] b h = h
+scalars_after (c ∷ a) b h = scalars_after a b (later (scalar c) (all_scalars (a ++ b)) h)
   where
     later : (s t : Bool) → (s && t) ≡ true → t ≡ true
     later true t e = e
@@ -45,8 +45,8 @@ piece_lies : (cs a t b : List ℕ) (e : Entry) → all_scalars cs ≡ true → c
     → e.to ≡ bytes_in a + bytes_in t → LiesIn (encode_utf8_all cs) e
 piece_lies cs a t b e u h f l =
     let u0 : all_scalars (a ++ (t ++ b)) ≡ true = sym (ap all_scalars h) ∙ u in
-    let u1 : all_scalars (t ++ b) ≡ true = scalars_behind a (t ++ b) u0 in
-    let u2 : all_scalars b ≡ true = scalars_behind t b u1 in
+    let u1 : all_scalars (t ++ b) ≡ true = scalars_after a (t ++ b) u0 in
+    let u2 : all_scalars b ≡ true = scalars_after t b u1 in
     let e1 : encode_utf8_all cs ≡ encode_utf8_all a ++ encode_utf8_all (t ++ b) = ap encode_utf8_all h ∙ encodes-append a (t ++ b) in
     let g : cs ≡ (a ++ t) ++ b = h ∙ sym (append_assoc a t b) in
     let e2 : encode_utf8_all cs ≡ encode_utf8_all (a ++ t) ++ encode_utf8_all b = ap encode_utf8_all g ∙ encodes-append (a ++ t) b in
@@ -79,7 +79,7 @@ cond_step : (text : List ℕ) (b : Bool) (s t : Step) → StepLies text s → St
 cond_step text true s t h k = h
 cond_step text false s t h k = k
 
--- the steps before a place, where a text goes on behind it
+-- the steps before a place, where a text goes on after it
 module _ (cs : List ℕ) (good : all_scalars cs ≡ true) (before : List Lexeme) where
   mark_lies : (rest : List ℕ) (e : Entry) → cs ≡ text_before before ++ rest → e.«from» ≡ bytes_in (text_before before)
       → e.to ≡ bytes_in (text_before before) → LiesIn (encode_utf8_all cs) e

@@ -28,8 +28,8 @@ use Rattle.pylex_listing.specs.Laws.{RunsForward, EndsBefore, AreOrdered, IsOrde
 use Rattle.pylex_listing.proofs.Callers.{listing_is}
 use Rattle.pylex.proofs.Listing.Ends.{stop_is_fault}
 
--- one point isn't behind another
-record NotBehind (p q : Point) : Type 0 where
+-- one point isn't after another
+record NotAfter (p q : Point) : Type 0 where
   offset : p.offset ≤ q.offset
   row : p.place.row ≤ q.place.row
 
@@ -41,18 +41,18 @@ end_of e = record { place = e.«end»; offset = e.to }
 
 -- the entries among steps stand in order between two points
 abbrev Reaches : Point → List Step → Point → Type 0
-Reaches p [] q = NotBehind p q
-Reaches p (steps.Entry e ∷ ss) q = NotBehind p (begin_of e) × NotBehind (begin_of e) (end_of e) × Reaches (end_of e) ss q
+Reaches p [] q = NotAfter p q
+Reaches p (steps.Entry e ∷ ss) q = NotAfter p (begin_of e) × NotAfter (begin_of e) (end_of e) × Reaches (end_of e) ss q
 Reaches p (steps.End ∷ ss) q = Unit {0}
 Reaches p (steps.Fault f ∷ ss) q = Unit {0}
 
-same_point : (p : Point) → NotBehind p p
+same_point : (p : Point) → NotAfter p p
 same_point p = record { offset = omega arith; row = omega arith }
 
-through : (p q r : Point) → NotBehind p q → NotBehind q r → NotBehind p r
+through : (p q r : Point) → NotAfter p q → NotAfter q r → NotAfter p r
 through p q r a b = record { offset = omega arith; row = omega arith }
 
-earlier : (ss : List Step) (p q r : Point) → NotBehind p q → Reaches q ss r → Reaches p ss r
+earlier : (ss : List Step) (p q r : Point) → NotAfter p q → Reaches q ss r → Reaches p ss r
 earlier [] p q r n h = through p q r n h
 earlier (steps.Entry e ∷ ss) p q r n h = (through p q (begin_of e) n h.0, h.1, h.2)
 earlier (steps.End ∷ ss) p q r n h = tt
@@ -64,7 +64,7 @@ joined (steps.Entry e ∷ ss) ts p q r h k = (h.0, h.1, joined ss ts (end_of e) 
 joined (steps.End ∷ ss) ts p q r h k = tt
 joined (steps.Fault f ∷ ss) ts p q r h k = tt
 
-later : (ss : List Step) (p q r : Point) → Reaches p ss q → NotBehind q r → Reaches p ss r
+later : (ss : List Step) (p q r : Point) → Reaches p ss q → NotAfter q r → Reaches p ss r
 later [] p q r h n = through p q r h n
 later (steps.Entry e ∷ ss) p q r h n = (h.0, h.1, later ss (end_of e) q r h.2 n)
 later (steps.End ∷ ss) p q r h n = tt
@@ -83,14 +83,14 @@ advance_row p (c ∷ t) =
     by_char true = omega arith
     by_char false = omega arith
 
-past_not_behind : (p : Point) (t : List ℕ) → NotBehind p (past p t)
-past_not_behind p t = record { offset = omega arith; row = advance_row p.place t }
+past_not_after : (p : Point) (t : List ℕ) → NotAfter p (past p t)
+past_not_after p t = record { offset = omega arith; row = advance_row p.place t }
 
 -- the last point up to which entries can reach: at a line's margin its begin
 abbrev floor : State → Point
 floor s = cond s.margin s.line s.now
 
-floor_now : (m : Bool) (p q : Point) → NotBehind p q → NotBehind (cond m p q) q
+floor_now : (m : Bool) (p q : Point) → NotAfter p q → NotAfter (cond m p q) q
 floor_now true p q h = h
 floor_now false p q h = same_point q
 
@@ -103,7 +103,7 @@ marks_reach : (n o : ℕ) (p : Place) → Reaches (record { place = p; offset = 
 marks_reach zero o p = same_point (record { place = p; offset = o })
 marks_reach (suc n) o p = (same_point (record { place = p; offset = o }), same_point (record { place = p; offset = o }), marks_reach n o p)
 
-layout_reaches : (s : State) → NotBehind s.line s.now → Reaches (floor s) (layout_of s) s.now
+layout_reaches : (s : State) → NotAfter s.line s.now → Reaches (floor s) (layout_of s) s.now
 unfolding layout_of
 layout_reaches s h = by_margin s.margin
   where
@@ -113,7 +113,7 @@ layout_reaches s h = by_margin s.margin
         (earlier (dedents_at s.width s.levels s.now.offset s.now.place) s.line s.now s.now h (marks_reach _ s.now.offset s.now.place)) tt)
     by_margin false = same_point s.now
 
-step_reaches : (k : Kind) (e : Option Exact) (p q : Point) → NotBehind p q → Reaches p (step_of k e p q ∷ []) q
+step_reaches : (k : Kind) (e : Option Exact) (p q : Point) → NotAfter p q → Reaches p (step_of k e p q ∷ []) q
 step_reaches k e p q h = (same_point p, h, same_point q)
 
 -- a lexeme's entry, in a line that has begun or as a line's end
@@ -122,7 +122,7 @@ unfolding entry_by
 entry_reaches s x n = by_class x.«class» x.text n
   where
     one : (k : Kind) (e : Option Exact) (t : List ℕ) → Reaches s.now (step_of k e s.now (past s.now t) ∷ []) (past s.now t)
-    one k e t = step_reaches k e s.now (past s.now t) (past_not_behind s.now t)
+    one k e t = step_reaches k e s.now (past s.now t) (past_not_after s.now t)
 
     by_class : (k : Class) (t : List ℕ) → is_of_blanks (record { «class» = k; text = t }) ≡ false
         → Reaches s.now (entry_by s (record { «class» = k; text = t })) (past s.now t)
@@ -132,23 +132,23 @@ entry_reaches s x n = by_class x.«class» x.text n
     by_class (Operator o) t n = cond_reaches (is_closer o && (s.depth == 0)) _ _ s.now (past s.now t) tt (one kinds.Op (Some o) t)
     by_class Comment t n = one kinds.Comment None t
     by_class Blanks t n = cc
-    by_class LineEnd t n = let h = past_not_behind s.now t in (
+    by_class LineEnd t n = let h = past_not_after s.now t in (
       same_point s.now,
       record { offset = omega arith; row = omega arith },
       record { offset = omega arith; row = omega arith },
     )
-    by_class Join t n = past_not_behind s.now t
+    by_class Join t n = past_not_after s.now t
 
--- where a lexeme leads to, its line's begin isn't behind the place
-line_stays : (s : State) (x : Lexeme) → NotBehind s.line s.now → NotBehind (after s x).line (after s x).now
+-- where a lexeme leads to, its line's begin isn't after the place
+line_stays : (s : State) (x : Lexeme) → NotAfter s.line s.now → NotAfter (after s x).line (after s x).now
 unfolding after
 line_stays s x h = by_end (ends_line s x)
   where
-    by_end : (b : Bool) → NotBehind (cond b (past s.now x.text) s.line) (past s.now x.text)
+    by_end : (b : Bool) → NotAfter (cond b (past s.now x.text) s.line) (past s.now x.text)
     by_end true = same_point (past s.now x.text)
-    by_end false = through s.line s.now (past s.now x.text) h (past_not_behind s.now x.text)
+    by_end false = through s.line s.now (past s.now x.text) h (past_not_after s.now x.text)
 
-blanks_reach : (s : State) (x : Lexeme) → is_of_blanks x ≡ true → NotBehind s.line s.now → Reaches (floor s) (gives s x) (floor (after s x))
+blanks_reach : (s : State) (x : Lexeme) → is_of_blanks x ≡ true → NotAfter s.line s.now → Reaches (floor s) (gives s x) (floor (after s x))
 unfolding gives entry_by after
 blanks_reach s x b h = by_class x.«class» x.text b
   where
@@ -156,9 +156,9 @@ blanks_reach s x b h = by_class x.«class» x.text b
         → Reaches (floor s) (gives s (record { «class» = k; text = t })) (floor (after s (record { «class» = k; text = t })))
     by_class Blanks t e = by_margin s.margin
       where
-        by_margin : (m : Bool) → NotBehind (cond m s.line s.now) (cond m s.line (past s.now t))
+        by_margin : (m : Bool) → NotAfter (cond m s.line s.now) (cond m s.line (past s.now t))
         by_margin true = same_point s.line
-        by_margin false = past_not_behind s.now t
+        by_margin false = past_not_after s.now t
     by_class Name t e = cc
     by_class Number t e = cc
     by_class String t e = cc
@@ -176,7 +176,7 @@ floor_after s x n = rw n (by_end (ends_line s x))
     by_end true = refl
     by_end false = refl
 
-others_reach : (s : State) (x : Lexeme) → is_of_blanks x ≡ false → NotBehind s.line s.now
+others_reach : (s : State) (x : Lexeme) → is_of_blanks x ≡ false → NotAfter s.line s.now
     → Reaches (floor s) (gives s x) (floor (after s x))
 unfolding gives
 others_reach s x n h = subst (λ (q : Point). Reaches (floor s) (gives s x) q) (sym (floor_after s x n))
@@ -184,7 +184,7 @@ others_reach s x n h = subst (λ (q : Point). Reaches (floor s) (gives s x) q) (
     (cond_reaches (is_significant x) (layout_of s) [] (floor s) s.now (layout_reaches s h) (floor_now s.margin s.line s.now h))
     (entry_reaches s x n))
 
-lexeme_reaches : (s : State) (x : Lexeme) → NotBehind s.line s.now → Reaches (floor s) (gives s x) (floor (after s x))
+lexeme_reaches : (s : State) (x : Lexeme) → NotAfter s.line s.now → Reaches (floor s) (gives s x) (floor (after s x))
 lexeme_reaches s x h = ⊎_elim (λ (e : is_of_blanks x ≡ true). blanks_reach s x e h) (λ (e : is_of_blanks x ≡ false). others_reach s x e h)
     (cases_Bool (is_of_blanks x))
 
@@ -203,7 +203,7 @@ tail_reaches : (s : State) → Reaches s.now (tail_of s) (last_point s)
 unfolding tail_of last_line_end
 tail_reaches s =
     let l = last_not_before s in
-    let n : NotBehind s.now (last_point s) = record { offset = omega arith; row = omega arith } in
+    let n : NotAfter s.now (last_point s) = record { offset = omega arith; row = omega arith } in
     cond_reaches (not (s.depth == 0) || s.joined) _ _ s.now (last_point s) tt
     (joined (last_line_end s ++ dedents_at 0 s.levels s.now.offset (last_place s)) _ s.now (last_point s) (last_point s)
     (joined (last_line_end s) (dedents_at 0 s.levels s.now.offset (last_place s)) s.now (last_point s) (last_point s)
@@ -217,7 +217,7 @@ tail_reaches s =
     (marks_reach _ s.now.offset (last_place s)))
     (same_point (last_point s), same_point (last_point s), tt))
 
-stop_reaches : (fault : Option ListingFault) (left : List ℕ) (s : State) → NotBehind s.line s.now
+stop_reaches : (fault : Option ListingFault) (left : List ℕ) (s : State) → NotAfter s.line s.now
     → Reaches (floor s) (stop_of fault s left) (last_point s)
 unfolding stop_of
 stop_reaches fault left s h =
@@ -231,7 +231,7 @@ stop_reaches fault left s h =
     by_fault (Some f) = tt
     by_fault None = earlier (tail_of s) (floor s) s.now (last_point s) (floor_now s.margin s.line s.now h) (tail_reaches s)
 
-run_reaches : (fault : Option ListingFault) (left : List ℕ) (xs : List Lexeme) (s : State) → NotBehind s.line s.now
+run_reaches : (fault : Option ListingFault) (left : List ℕ) (xs : List Lexeme) (s : State) → NotAfter s.line s.now
     → (q : Point) × Reaches (floor s) (run fault left s xs) q
 run_reaches fault left [] s h = (last_point s, stop_reaches fault left s h)
 run_reaches fault left (x ∷ xs) s h = let r = run_reaches fault left xs (after s x) (line_stays s x h) in
@@ -240,7 +240,7 @@ run_reaches fault left (x ∷ xs) s h = let r = run_reaches fault left xs (after
 -- entries in order from a point on
 abbrev Chained : Point → List Entry → Type 0
 Chained p [] = Unit {0}
-Chained p (e ∷ es) = NotBehind p (begin_of e) × NotBehind (begin_of e) (end_of e) × Chained (end_of e) es
+Chained p (e ∷ es) = NotAfter p (begin_of e) × NotAfter (begin_of e) (end_of e) × Chained (end_of e) es
 
 chained : (ss : List Step) (p q : Point) → Reaches p ss q → Chained p (entries_of (up_to_end ss))
 chained [] p q h = tt
@@ -248,7 +248,7 @@ chained (steps.Entry e ∷ ss) p q h = (h.0, h.1, chained ss (end_of e) q h.2)
 chained (steps.End ∷ ss) p q h = tt
 chained (steps.Fault f ∷ ss) p q h = tt
 
-begins_later : (es : List Entry) (p : Point) → Chained p es → (k : ℕ) (d : Entry) → k < length es → NotBehind p (begin_of (get_or es k d))
+begins_later : (es : List Entry) (p : Point) → Chained p es → (k : ℕ) (d : Entry) → k < length es → NotAfter p (begin_of (get_or es k d))
 begins_later [] p h k d l = absurd (omega arith)
 begins_later (e ∷ es) p h zero d l = h.0
 begins_later (e ∷ es) p h (suc k) d l = through p (end_of e) _ (through p (begin_of e) (end_of e) h.0 h.1)
@@ -276,10 +276,10 @@ is_ordered s =
     let r = run_reaches s.fault (left_by_cut s.text) (cut s.text) first_state (same_point first_point) in
     let c = chained _ first_point r.0 r.1 in
     let z : Point = record { place = origin; offset = 0 } in
-    let f : NotBehind z first_point = record { offset = omega arith; row = omega arith } in
+    let f : NotAfter z first_point = record { offset = omega arith; row = omega arith } in
     subst (λ (ss : List Step). AreOrdered (entries_of ss)) (sym (listing_is s))
     (ordered _ z (same_point z, same_point z, weaken z first_point f _ c))
   where
-    weaken : (p q : Point) → NotBehind p q → (es : List Entry) → Chained q es → Chained p es
+    weaken : (p q : Point) → NotAfter p q → (es : List Entry) → Chained q es → Chained p es
     weaken p q n [] h = tt
     weaken p q n (e ∷ es) h = (through p q (begin_of e) n h.0, h.1, h.2)

@@ -67,7 +67,7 @@ class_says cs t k e = by_string (opens_string cs) (counts_as_string cs t) e
 pub lexeme_says : (cs : List ℕ) (x : Lexeme) → lexeme_at cs ≡ Some x → Says x.«class» x.text
 lexeme_says cs x e = class_says cs x.text x.«class» (lexeme_class cs x e)
 
--- behind a line end a line begins
+-- after a line end a line begins
 ends_in_newline : (t : List ℕ) → last_line (t ++ 10 ∷ []) ≡ []
 ends_in_newline t = last_push t 10
 

@@ -8,7 +8,7 @@ use Rattle.std.specs.List.{flat_map}
 use Rattle.pylex_listing.specs.declared.entries.ListingFault.{ListingFault}
 use Rattle.pylex_lexeme.specs.Lexemes.{Lexeme, lexeme_at, cut, cut_after, left_by_cut}
 use Rattle.pylex_listing.specs.Listing.{up_to_end}
-use Rattle.pylex_listing.specs.Machine.{State, gives, after, run, remaining, stop_of, behind_steps}
+use Rattle.pylex_listing.specs.Machine.{State, gives, after, run, remaining, stop_of, after_steps}
 use Rattle.pylex_listing.proofs.Callers.{up_to_end-append}
 
 cut_after_front : (f back : List ℕ) → cut_after (length f) (f ++ back) ≡ cut_after 0 back
@@ -45,7 +45,7 @@ left_stop cs e = let c = cut_stop cs e in rw c refl
 
 -- what is left to list where a lexeme stands, and where none does
 pub remaining_step : (fault : Option ListingFault) (s : State) (front back : List ℕ) (x : Lexeme) → lexeme_at (front ++ back) ≡ Some x
-    → x.text ≡ front → 0 < length front → remaining fault s (front ++ back) ≡ behind_steps (gives s x) (remaining fault (after s x) back)
+    → x.text ≡ front → 0 < length front → remaining fault s (front ++ back) ≡ after_steps (gives s x) (remaining fault (after s x) back)
 unfolding remaining
 remaining_step fault s front back x e t n =
     let c = cut_step front back x e t n in

@@ -30,7 +30,7 @@ use Rattle.pylex_listing.specs.declared.kind.Kind.TheVariants as kinds
 use Rattle.pylex_listing.specs.declared.point.Point.{Point}
 use Rattle.pylex.specs.declared.line_state.LineState.{LineState}
 use Rattle.pylex_listing.specs.Lines.{opens, closes, count_if}
-use Rattle.pylex_listing.specs.Machine.{State, place_past, lead_after, after, behind, entry_by, line_end_kind_of, step_of, past, still}
+use Rattle.pylex_listing.specs.Machine.{State, place_past, lead_after, after, following, entry_by, line_end_kind_of, step_of, past, still}
 use Rattle.pylex_listing.specs.Machine.{begun_by}
 use Rattle.pylex.specs.LineState.{with_levels, HasRoom}
 use Rattle.pylex.proofs.MachineLaws.Advancing.{room_on}
@@ -235,7 +235,7 @@ unfolding entry_by
 operator_entry s o t e = rw e refl
 
 pub line_end_entry : (s : State) (t : List ℕ) → entry_by s (record { «class» = LineEnd; text = t }) ≡ step_of (line_end_kind_of s) None
-    s.now (behind s.now t) ∷ []
+    s.now (following s.now t) ∷ []
 unfolding entry_by
 line_end_entry s t = refl
 
@@ -267,7 +267,7 @@ pub line_end_given : (p : LineState) (bs : List ℕ) (levels : List ℕ) (kind :
     → entry_by (with_levels p levels) (record { «class» = LineEnd; text = chars bs }) ≡ steps.Entry e ∷ []
 line_end_given p bs levels kind e is many counted gives =
     line_end_entry (with_levels p levels) (chars bs)
-    ∙ ap (λ (n : Kind). step_of n None p.now (behind p.now (chars bs)) ∷ []) is
+    ∙ ap (λ (n : Kind). step_of n None p.now (following p.now (chars bs)) ∷ []) is
     ∙ ap (λ (n : ℕ). step_of kind None p.now (record {
       place = record { row = p.now.place.row; column = p.now.place.column + n };
       offset =

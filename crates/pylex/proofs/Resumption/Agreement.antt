@@ -20,27 +20,27 @@ taken_none c r e = rw take_while-cons (rw e refl)
 taken_one : (c : ℕ) (r : List ℕ) → (c == 10) ≡ false → take_while goes_on (c ∷ r) ≡ c ∷ take_while goes_on r
 taken_one c r e = rw take_while-cons (rw e refl)
 
-abbrev behind_line : List ℕ → List ℕ
-behind_line r = drop (prefix_len goes_on r) r
+abbrev after_line : List ℕ → List ℕ
+after_line r = drop (prefix_len goes_on r) r
 
-left_all : (c : ℕ) (r : List ℕ) → (c == 10) ≡ true → behind_line (c ∷ r) ≡ c ∷ r
+left_all : (c : ℕ) (r : List ℕ) → (c == 10) ≡ true → after_line (c ∷ r) ≡ c ∷ r
 left_all c r e = rw e refl
 
-left_on : (c : ℕ) (r : List ℕ) → (c == 10) ≡ false → behind_line (c ∷ r) ≡ behind_line r
+left_on : (c : ℕ) (r : List ℕ) → (c == 10) ≡ false → after_line (c ∷ r) ≡ after_line r
 left_on c r e = let o : 1 + prefix_len goes_on r ≡ suc (prefix_len goes_on r) = omega arith in rw (e, o) refl
 
-stops_there : (r : List ℕ) → take_while goes_on (behind_line r) ≡ []
+stops_there : (r : List ℕ) → take_while goes_on (after_line r) ≡ []
 stops_there [] = refl
 stops_there (c ∷ r) = ⊎_elim
     (λ (e : (c == 10) ≡ true). ap (take_while goes_on) (left_all c r e) ∙ taken_none c r e)
     (λ (e : (c == 10) ≡ false). ap (take_while goes_on) (left_on c r e) ∙ stops_there r)
     (cases_Bool (c == 10))
 
-stops_behind : (u r : List ℕ) → take_while goes_on (u ++ behind_line r) ≡ take_while goes_on u
-stops_behind [] r = stops_there r
-stops_behind (c ∷ u) r = ⊎_elim
-    (λ (e : (c == 10) ≡ true). taken_none c (u ++ behind_line r) e ∙ sym (taken_none c u e))
-    (λ (e : (c == 10) ≡ false). taken_one c (u ++ behind_line r) e ∙ ap (λ t. c ∷ t) (stops_behind u r) ∙ sym (taken_one c u e))
+stops_following : (u r : List ℕ) → take_while goes_on (u ++ after_line r) ≡ take_while goes_on u
+stops_following [] r = stops_there r
+stops_following (c ∷ u) r = ⊎_elim
+    (λ (e : (c == 10) ≡ true). taken_none c (u ++ after_line r) e ∙ sym (taken_none c u e))
+    (λ (e : (c == 10) ≡ false). taken_one c (u ++ after_line r) e ∙ ap (λ t. c ∷ t) (stops_following u r) ∙ sym (taken_one c u e))
     (cases_Bool (c == 10))
 
 whole_lines : (f u : List ℕ) → last_line (lines_before f ++ u) ≡ last_line u
@@ -49,7 +49,7 @@ whole_lines f u =
     let r = reverse f in
     ap (λ t. reverse (take_while goes_on t)) (reverse-append (lines_before f) u
     ∙ ap (λ t. reverse u ++ t) (reverse-reverse (drop (prefix_len goes_on r) r)))
-    ∙ ap reverse (stops_behind (reverse u) r)
+    ∙ ap reverse (stops_following (reverse u) r)
 
 -- A text's whole lines before an offset, and what begins with the offset's line.
 record Lined (n : ℕ) (text : List ℕ) : Type 0 where

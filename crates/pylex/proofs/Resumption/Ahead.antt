@@ -28,7 +28,7 @@ use Rattle.pylex.proofs.Resumption.Resume.{begun_at, run_same, front_in, front_z
 use Rattle.pylex.proofs.Resumption.Resumed.{column_is, front_line, resumed_start}
 use Rattle.pylex.proofs.MachineLaws.LexemeClasses.{Says, line_end_begins, comment_in_line}
 
--- what is given from behind these lexemes on, by a cursor there alone
+-- what is given from after these lexemes on, by a cursor there alone
 unfoldable pub ahead : Source → Bool → List Lexeme → List Step
 ahead s indented h = remaining s.fault (resumed (cursor_at 0 0 indented h) (last_line (front_to (bytes_in (text_before h)) s.text)))
     (back_from (bytes_in (text_before h)) s.text)
@@ -58,15 +58,15 @@ placed_next s h xs x text left p = record {
 pub placed_first : (s : Source) → Placed s [] (cut s.text) s.text (left_by_cut s.text)
 placed_first s = record { fronts = []; history = refl; whole = refl; parts = refl; lexemes = cut_lexed s.text }
 
-full_behind : (fs xs : List Lexeme) → Full (fs ++ xs) → Full xs
-full_behind [] xs f = f
-full_behind (x ∷ fs) xs f = full_behind fs xs f.1
+full_after : (fs xs : List Lexeme) → Full (fs ++ xs) → Full xs
+full_after [] xs f = f
+full_after (x ∷ fs) xs f = full_after fs xs f.1
 
 -- the lexemes up to a place are those before it
 pub history_is : (s : Source) (h xs : List Lexeme) (text left : List ℕ) → Placed s h xs text left
     → lexemes_to (bytes_in (text_before h)) [] (cut s.text) ≡ h
 history_is s h xs text left p =
-    let f = full_behind p.fronts xs (subst Full p.whole (cut_full s.text)) in
+    let f = full_after p.fronts xs (subst Full p.whole (cut_full s.text)) in
     ap (λ g. lexemes_to (bytes_in (text_before g)) [] (cut s.text)) p.history
     ∙ ap (lexemes_to (bytes_in (text_before (onto p.fronts []))) []) p.whole ∙ lexemes_at p.fronts [] xs f ∙ sym p.history
 
@@ -157,7 +157,7 @@ closed_without (x ∷ before) e = ⊎_elim
     same_depth x before p.0 ∙ closed_without before p.1)
     (cases_Bool (is_of_line_end x && (depth before == 0)))
 
--- The state that a cursor tells behind a lexeme with an entry.
+-- The state that a cursor tells after a lexeme with an entry.
 pub resumed_in : (h : List Lexeme) → is_at_margin h ≡ false → ends_in_join h ≡ false
     → (not (is_logical h) && (length (last_line (text_before h)) == 0)) ≡ false
     → resumed (cursor_at 0 0 false h) (last_line (text_before h)) ≡ begun_at (state_of h) (point_after (text_before h))
@@ -167,7 +167,7 @@ resumed_in h m j b =
     let f = front_line (text_before h) in
     rw (b, c, f, m, j) refl
 
--- behind a line end at depth 0 a line begins
+-- after a line end at depth 0 a line begins
 pub starts_line : (h : List Lexeme) (x : Lexeme) → (is_of_line_end x && (depth h == 0)) ≡ true → line_so_far (x ∷ h) ≡ []
 unfolding line_so_far
 starts_line h x e = rw e refl
@@ -251,7 +251,7 @@ pub ahead_own : (s : Source) (h xs : List Lexeme) (x : Lexeme) (text left : List
     → is_of_blanks x ≡ false → is_of_join x ≡ false → ahead s false (x ∷ h) ≡ up_to_end (run s.fault left (state_of (x ∷ h)) xs)
 ahead_own s h xs x text left p y b j = ahead_runs s false (x ∷ h) xs text left p ∙ ap up_to_end (own_run s.fault left h xs x y b j)
 
--- The state that a cursor tells behind an INDENT: the line has begun, and its level is open.
+-- The state that a cursor tells after an INDENT: the line has begun, and its level is open.
 abbrev pub measured : List Lexeme → State
 measured h = record (state_of h) {
   line = point_after (text_before h);
@@ -294,7 +294,7 @@ measured_entry h x e = by_class x.«class» x.text e
     by_class LineEnd t e = cc
     by_class Join t e = refl
 
--- behind its first significant token a line is the same, but for its begin
+-- after its first significant token a line is the same, but for its begin
 measured_after : (h : List Lexeme) (x : Lexeme) → is_at_margin h ≡ true → is_significant x ≡ true
     → after (measured h) x ≡ begun_at (after (state_of h) x) (point_after (text_before h))
 unfolding after state_of
@@ -327,7 +327,7 @@ significant_margin s x e = by_class x.«class» x.text e
     by_class LineEnd t e = cc
     by_class Join t e = refl
 
--- what is ahead of a place behind an INDENT
+-- what is ahead of a place after an INDENT
 pub ahead_indented : (s : Source) (h xs : List Lexeme) (x : Lexeme) (text left : List ℕ) → Placed s h (x ∷ xs) text left
     → is_at_margin h ≡ true → is_significant x ≡ true
     → ahead s true h ≡ up_to_end (entry_by (state_of h) x ++ run s.fault left (after (state_of h) x) xs)

@@ -24,13 +24,13 @@ use Rattle.pylex.specs.Standing.{front_to, back_from}
 use Rattle.pylex.specs.Listers.{Listed, StandsIn}
 use Rattle.pylex_listing.proofs.Callers.{bytes_in-append, count_cons, Full, cut_full}
 use Rattle.pylex_lexeme.proofs.Callers.Fronts.{length-text}
-use Rattle.pylex.proofs.Listing.Lying.{scalars_behind}
+use Rattle.pylex.proofs.Listing.Lying.{scalars_after}
 use Rattle.pylex.proofs.Resumption.Resume.{front_and_back, onto}
 use Rattle.pylex.proofs.Resumption.Ahead.{front_is, Placed}
 use Rattle.pylex.proofs.Resumption.Agreement.{same_front_bytes}
 use Rattle.pylex.proofs.Levels.OpenLevels.{Grounded, grounded}
 use Rattle.pylex.proofs.Resumption.Cursoring.{cursor_point, offset_at, line_bytes}
-use Rattle.pylex.proofs.Callers.{is_behind}
+use Rattle.pylex.proofs.Callers.{is_following}
 
 -- The row.
 rows_within : (t : List ℕ) → (place_after t).row ≤ 1 + bytes_in t
@@ -240,11 +240,11 @@ boundary_at text n u e =
     let w : f ++ b ≡ cs = front_and_back cs n in
     let parts : text ≡ encode_utf8_all f ++ encode_utf8_all b = sym (encodes-chars text u)
     ∙ ap encode_utf8_all (sym w) ∙ encodes-append f b in
-    let good : all_scalars b ≡ true = scalars_behind f b (ap all_scalars w ∙ scalars-chars text u) in
+    let good : all_scalars b ≡ true = scalars_after f b (ap all_scalars w ∙ scalars-chars text u) in
     subst (IsCharBoundary text) e (IsCharBoundary-at_seam text (encode_utf8_all f) (encode_utf8_all b) parts (b, (good, refl)))
 
 shown_small : (l : Listed) (a : Source) (k : ℕ) → StandsIn l a k → SmallParts l.shown a
-shown_small l a k h = subst (λ (c : CursorParts). SmallParts c a) (sym (is_behind h.cursor).is) (small_parts a l.shown.given)
+shown_small l a k h = subst (λ (c : CursorParts). SmallParts c a) (sym (is_following h.cursor).is) (small_parts a l.shown.given)
 
 -- the length of the text in hand is that of the source that the lister stands in
 pub text_length : (l : Listed) (a : Source) (k : ℕ) → IsUtf8 l.source.text → StandsIn l a k → bytes_in a.text ≡ length l.source.text

@@ -27,7 +27,7 @@ use Rattle.pylex_listing.specs.Steps.{entries_of, first_step, mark, IsNoEntry}
 use Rattle.pylex.specs.Cursors.{CursorParts, given_last_first, has_no_text, is_encoding, with_text, point, ends_in_indent}
 use Rattle.pylex_listing.specs.Laws.{is_indent}
 use Rattle.pylex.specs.Cursors.{lexemes_to, cursor_at, cursor}
-use Rattle.pylex_listing.specs.Machine.{State, after, step_of, entry_by, remaining, first_state, behind_steps}
+use Rattle.pylex_listing.specs.Machine.{State, after, step_of, entry_by, remaining, first_state, after_steps}
 use Rattle.pylex.specs.LineState.{measured, is_above}
 use Rattle.pylex.specs.Standing.{Standing, front_to, standing_by, standing, resumed, to_give, Agrees}
 use Rattle.pylex.specs.Listers.{Listed, StandsIn, shown_at, Passes, here, lexeme, layout}
@@ -46,7 +46,7 @@ use Rattle.pylex.proofs.Resumption.Passing.{passes_steps, passes_reach, Reached,
 use Rattle.pylex.proofs.Levels.OpenLevels.{grounded, above_ground}
 use Rattle.pylex_listing.specs.declared.point.Point.{Point}
 use Rattle.std.proofs.lemmas.Str.{length-le-encodes}
-use Rattle.pylex.proofs.Callers.{is_behind, is_own}
+use Rattle.pylex.proofs.Callers.{is_following, is_own}
 use Rattle.pylex.proofs.Listers.Ranges.{offset_after}
 
 -- What a lister that stands in a source still gives is the rest of that source's listing.
@@ -107,7 +107,7 @@ pub after_empty : (l : Listed) (a : Source) (k : ℕ) (e : Entry) → StandsIn l
 after_empty l a k e h n f t =
     let g = given_next a k e f in
     let w = g.within in
-    let c : l.shown ≡ cursor a k = (is_behind h.cursor).is ∙ ap (cursor a) h.count in
+    let c : l.shown ≡ cursor a k = (is_following h.cursor).is ∙ ap (cursor a) h.count in
     record {
       cursor = is_own (record {
         within = omega arith;
@@ -187,7 +187,7 @@ reached_cursor a k =
 reached_in : (l : Listed) (a : Source) (k : ℕ) → StandsIn l a k
     → Reached a (resumed l.shown (standing_by (in_characters l.source) l.shown).line) (standing_by (in_characters l.source) l.shown).left
 reached_in l a k h =
-    let c : l.shown ≡ cursor a k = (is_behind h.cursor).is ∙ ap (cursor a) h.count in
+    let c : l.shown ≡ cursor a k = (is_following h.cursor).is ∙ ap (cursor a) h.count in
     let v = stands_as l a k h in
     subst (λ (u : Standing). Reached a (resumed l.shown u.line) u.left) (sym v)
     (subst (λ (p : CursorParts). Reached a (resumed p (standing a k).line) (standing a k).left) (sym c) (reached_cursor a k))
@@ -260,7 +260,7 @@ own_entry t x e q = by_class x.«class» x.text q
     by_class LineEnd u q = own LineEnd u _ refl (record { indent = line_end (t.logical && (t.depth == 0)); begins = refl; ends = refl }) q
     by_class Join u q = absurd cc
 
--- The cursor that is shown at the state behind some lexemes.
+-- The cursor that is shown at the state after some lexemes.
 shown_plain : (k : ℕ) (s : State) (h : List Lexeme) → GoesAs s (state_of h) → shown_at k s ≡ cursor_at k 0 false h
 unfolding cursor_at state_of
 shown_plain k s h g =
@@ -315,10 +315,10 @@ pub lexeme_first : (l : Listed) (a : Source) (k : ℕ) (t : State) (ds : List �
 lexeme_first l a k t ds x e h n p d f q =
     let significant : (t.margin && is_significant x) ≡ false = ap (λ b. t.margin && b) (significant_is ds x f) ∙ d in
     ap first_step (rest_there l a k t ds h n p ∙ remaining_lexeme (in_characters l.source).fault t ds x f
-    ∙ ap (λ ss. behind_steps ss (remaining (in_characters l.source).fault (after t x) (drop (lexeme_len ds) ds)))
+    ∙ ap (λ ss. after_steps ss (remaining (in_characters l.source).fault (after t x) (drop (lexeme_len ds) ds)))
     (no_layout t x significant ∙ q))
 
--- The cursor behind it.
+-- The cursor after it.
 pub after_lexeme : (l : Listed) (a : Source) (k : ℕ) (t : State) (ds : List ℕ) (x : Lexeme) (e : Entry) → StandsIn l a k → 0 < k
     → Passes t ds l.shown.skip (resumed l.shown (standing_by (in_characters l.source) l.shown).line)
     (standing_by (in_characters l.source) l.shown).left → (t.margin && begins_significant ds) ≡ false → lexeme_at ds ≡ Some x
@@ -390,9 +390,9 @@ pub indent_first : (l : Listed) (a : Source) (k : ℕ) (t : State) (ds : List �
     → first_step (rest a k) ≡ step_of kinds.Indent None t.line t.now
 indent_first l a k t ds h n p m b w =
     ap first_step (rest_there l a k t ds h n p ∙ measured_significant (in_characters l.source).fault t ds m b
-    ∙ ap (λ ss. behind_steps ss (remaining (in_characters l.source).fault (measured t) ds)) (layout_indent t m w))
+    ∙ ap (λ ss. after_steps ss (remaining (in_characters l.source).fault (measured t) ds)) (layout_indent t m w))
 
--- The cursor behind it.
+-- The cursor after it.
 pub after_indent : (l : Listed) (a : Source) (k : ℕ) (t : State) (ds : List ℕ) → StandsIn l a k → 0 < k
     → Passes t ds l.shown.skip (resumed l.shown (standing_by (in_characters l.source) l.shown).line)
     (standing_by (in_characters l.source) l.shown).left → t.margin ≡ true → begins_significant ds ≡ true → is_above t.width t.levels ≡ true
@@ -426,7 +426,7 @@ after_indent l a k t ds h n p m b w =
     (shown_laid (k + 1) t r.before at g)
     refl (omega arith)
 
--- Before the first entry, and behind it.
+-- Before the first entry, and after it.
 pub agrees_itself : (a : Source) (n : ℕ) → Agrees a a n
 agrees_itself a n = record { encoding = refl; fault = refl; same_length = refl; begins = refl; same = refl }
 
@@ -466,7 +466,7 @@ cursor_first a = refl
 
 pub after_first : (l : Listed) (a : Source) → StandsIn l a 0 → StandsIn (record l { shown = record l.shown { given = 1 } }) a 1
 after_first l a h =
-    let c : l.shown ≡ cursor a 0 = (is_behind h.cursor).is ∙ ap (cursor a) h.count in
+    let c : l.shown ≡ cursor a 0 = (is_following h.cursor).is ∙ ap (cursor a) h.count in
     let some : 1 ≤ length (entries_of (listing a)) =
     let e : length (entries_of (listing a)) ≡ suc (length (entries_of (remaining a.fault first_state a.text))) =
     ap (λ ss. length (entries_of ss)) (listing_is a) in omega arith in

@@ -18,17 +18,17 @@ use Rattle.pylex_lexeme.specs.Cuts.{begins_significant}
 use Rattle.pylex_lexeme.specs.Lexemes.{Lexeme, lexeme_at, lexeme_len}
 use Rattle.pylex_listing.specs.Lines.{closes, is_significant, depth}
 use Rattle.pylex_listing.specs.Listing.{Source}
-use Rattle.pylex_listing.specs.Machine.{State, after, layout_of, entry_by, gives, remaining, behind_steps}
+use Rattle.pylex_listing.specs.Machine.{State, after, layout_of, entry_by, gives, remaining, after_steps}
 use Rattle.pylex.specs.LineState.{measured}
 use Rattle.pylex.specs.Listers.{Passes, here, lexeme, layout}
 use Rattle.pylex_listing.proofs.Callers.{state_of, state_push, IsBalanced, balanced_push, significant_is}
 use Rattle.pylex.proofs.Listers.Measured.{remaining_lexeme, after_measured}
-use Rattle.pylex.proofs.Listers.Finding.{measured_significant, behind_first}
+use Rattle.pylex.proofs.Listers.Finding.{measured_significant, following_first}
 use Rattle.pylex.proofs.Resumption.Ahead.{Placed, placed_next}
 use Rattle.pylex.proofs.Resumption.Resuming.{state_at_margin, state_depth}
 use Rattle.pylex.proofs.Resumption.Points.{GoesAs, after_alike, measured_alike, StoodAt, plain, laid}
 
-drop_marks : (m n : ℕ) (e : Entry) (r : List Step) → drop (m + n) (behind_steps (replicate m (steps.Entry e)) r) ≡ drop n r
+drop_marks : (m n : ℕ) (e : Entry) (r : List Step) → drop (m + n) (after_steps (replicate m (steps.Entry e)) r) ≡ drop n r
 drop_marks zero n e r = let o : 0 + n ≡ n = omega arith in rw o refl
 drop_marks (suc m) n e r = let o : suc m + n ≡ suc (m + n) = omega arith in rw o (drop_marks m n e r)
 
@@ -37,11 +37,11 @@ pub passes_steps : (f : Option ListingFault) (t : State) (ds : List ℕ) (n : �
     → drop n (remaining f s cs) ≡ remaining f t ds
 passes_steps f t ds n s cs here = refl
 passes_steps f t ds n s cs (lexeme m r bs x e g p) =
-    ap (drop n) (remaining_lexeme f s cs x e ∙ ap (λ ss. behind_steps ss (remaining f (after s x) (drop (lexeme_len cs) cs))) g)
+    ap (drop n) (remaining_lexeme f s cs x e ∙ ap (λ ss. after_steps ss (remaining f (after s x) (drop (lexeme_len cs) cs))) g)
     ∙ passes_steps f t ds n (after s x) (drop (lexeme_len cs) cs) p
 passes_steps f t ds n s cs (layout m r bs a b l p) =
     ap (drop (count_by (nat_lt s.width) s.levels + m)) (measured_significant f s cs a b
-    ∙ ap (λ ss. behind_steps ss (remaining f (measured s) cs)) l)
+    ∙ ap (λ ss. after_steps ss (remaining f (measured s) cs)) l)
     ∙ drop_marks (count_by (nat_lt s.width) s.levels) m _ (remaining f (measured s) cs)
     ∙ passes_steps f t ds m (measured s) cs p
 
@@ -74,7 +74,7 @@ silent_entry : (s : State) (x : Lexeme) → gives s x ≡ [] → entry_by s x �
 unfolding gives
 silent_entry s x e = no_first (cond (is_significant x) (layout_of s) []) (entry_by s x) e
 
--- the state there, with what is before it and behind it
+-- the state there, with what is before it and after it
 pub record Reached (a : Source) (t : State) (ds : List ℕ) : Type 0 where
   pub before : List Lexeme
   pub later : List Lexeme
@@ -119,7 +119,7 @@ next_of a h [] cs left x e p = let n : None ≡ Some x = sym p.lexemes.1 ∙ e i
 next_of a h (y ∷ xs) cs left x e p =
     let n : Some y ≡ Some x = sym p.lexemes.1 ∙ e in
     let s : y ≡ x = same_lexeme n in
-    let d : p.lexemes.0 ≡ drop (lexeme_len cs) cs = sym (behind_first cs p.lexemes.0 y p.lexemes.1 p.lexemes.2) in
+    let d : p.lexemes.0 ≡ drop (lexeme_len cs) cs = sym (following_first cs p.lexemes.0 y p.lexemes.1 p.lexemes.2) in
     record {
       later = xs;
       placed = subst (λ (z : Lexeme). Placed a (z ∷ h) xs (drop (lexeme_len cs) cs) left) s

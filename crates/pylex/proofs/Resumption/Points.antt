@@ -1,4 +1,4 @@
--- Where the point of a cursor stands: the lexemes before it, those behind it, and the state there.
+-- Where the point of a cursor stands: the lexemes before it, those after it, and the state there.
 --
 -- Carries: GoesAs, StoodAt, PointOf, point_after_given and 5 more, for Passing, Cursoring. On:
 -- Ahead, Law, Resuming, LexemeClasses and 6 more.
@@ -28,7 +28,7 @@ use Rattle.pylex_listing.specs.Listing.{Source, listing, last_line, up_to_end}
 use Rattle.pylex_listing.specs.Steps.{entries_of}
 use Rattle.pylex.specs.Cursors.{given_last_first, has_no_text, is_encoding, with_text, point, ends_in_indent, cursor_at}
 use Rattle.pylex_listing.specs.Laws.{is_indent}
-use Rattle.pylex_listing.specs.Machine.{State, past, behind, after, ends_line, is_of_join, dedents_at, mark_at, line_end_kind_of, layout_of}
+use Rattle.pylex_listing.specs.Machine.{State, past, following, after, ends_line, is_of_join, dedents_at, mark_at, line_end_kind_of, layout_of}
 use Rattle.pylex_listing.specs.Machine.{entry_by, gives, is_hash, last_line_end, last_place, tail_of, stop_of, run, remaining, first_state}
 use Rattle.pylex.specs.LineState.{measured}
 use Rattle.pylex.specs.Standing.{resumed}
@@ -96,13 +96,13 @@ measured_alike s t g = let w = g.width in let l = g.levels in record {
     never : false ≡ true → ⊥
     never h = cc
 
--- The state behind some lexemes; the layout of the line may be given there, and then its first
+-- The state after some lexemes; the layout of the line may be given there, and then its first
 -- significant token comes next.
 pub data StoodAt (s : State) (h : List Lexeme) (cs : List ℕ) : Type 0 where
   plain : GoesAs s (state_of h) → StoodAt s h cs
   laid : is_at_margin h ≡ true → begins_significant cs ≡ true → GoesAs s (measured (state_of h)) → StoodAt s h cs
 
--- The point of a cursor: an offset of a source, directly behind an INDENT or not.
+-- The point of a cursor: an offset of a source, directly after an INDENT or not.
 pub record PointOf (s : Source) (indented : Bool) (offset : ℕ) : Type 0 where
   pub before : List Lexeme
   pub later : List Lexeme
@@ -113,7 +113,7 @@ pub record PointOf (s : Source) (indented : Bool) (offset : ℕ) : Type 0 where
   pub at : offset ≡ bytes_in (text_before before)
   pub stood : StoodAt (resumed (cursor_at 0 0 indented before) (last_line (text_before before))) before text
 
--- Behind a lexeme with an entry.
+-- After a lexeme with an entry.
 begun_alike : (s t : State) (p : Point) → t.margin ≡ false → s ≡ begun_at t p → GoesAs s t
 begun_alike s t p m e = rw e (record {
   now = refl;
@@ -145,7 +145,7 @@ own_alike h x y b j = ⊎_elim
     begun_alike _ (state_of (x ∷ h)) (point_after (text_before (x ∷ h))) (state_at_margin (x ∷ h) ∙ m) (resumed_in (x ∷ h) m j l))
     (cases_Bool (is_of_line_end x && (depth h == 0)))
 
--- Behind an INDENT.
+-- After an INDENT.
 indented_alike : (h : List Lexeme) → is_at_margin h ≡ true → GoesAs (indented_at h) (measured (state_of h))
 unfolding state_of
 indented_alike h m = rw m (record {
@@ -227,13 +227,13 @@ entry_pointed s t x h = by_class x.«class» x.text h
       kind = line_end_kind_of t;
       exact = None;
       start = t.now.place;
-      «end» = (behind t.now u).place;
+      «end» = (following t.now u).place;
       «from» = t.now.offset;
-      to = (behind t.now u).offset;
+      to = (following t.now u).offset;
     }) refl (h refl refl)
     by_class Join u h = tt
 
--- behind an unmatched closing bracket nothing counts
+-- after an unmatched closing bracket nothing counts
 unmatched_pointed : (s : Source) (t : State) (x : Lexeme) (ss : List Step) → (closes x && (t.depth == 0)) ≡ true
     → AllPointed s (entry_by t x ++ ss)
 unfolding entry_by
@@ -262,7 +262,7 @@ tail_pointed s t =
     (dedents_pointed s 0 t.levels t.now.offset (last_place t)))
     ((refl, λ h. absurd (full_entry t.now.offset t.now.offset refl h)), tt))
 
--- The point behind an INDENT, and behind a lexeme.
+-- The point after an INDENT, and after a lexeme.
 indent_point : (s : Source) (h xs : List Lexeme) (text left : List ℕ) → Placed s h xs text left → IsBalanced h → is_at_margin h ≡ true
     → begins_significant text ≡ true → PointOf s true (state_of h).now.offset
 indent_point s h xs text left p b m t = record {
@@ -437,7 +437,7 @@ point_after_given s (suc j) =
     subst (PointAfter s) (sym (given_first s j))
     (points s (reverse (take j es)) (each_reverse s (take j es) (each_take s j es (each_pointed s))))
 
--- no entry behind the first is the encoding's
+-- no entry after the first is the encoding's
 first_of : (s : Source) (e : Entry) (es fs : List Entry) → Each s es → e ∷ fs ≡ es ++ encoding_entry ∷ []
     → 0 < length es → is_encoding e ≡ false
 first_of s e [] fs h q n = absurd (omega arith)

@@ -107,7 +107,7 @@ front_and_back (c ∷ t) n = ⊎_elim
     (λ (l : leb (bytes_in (c ∷ [])) n ≡ false). rw l refl)
     (cases_Bool (leb (bytes_in (c ∷ [])) n))
 
--- A line's begin, by bytes: its text and what is behind it depend on what stands from the begin on.
+-- A line's begin, by bytes: its text and what is after it depend on what stands from the begin on.
 abbrev pub goes_on : ℕ → Bool
 goes_on c = not (c == 10)
 
@@ -206,7 +206,7 @@ run_same fault left (x ∷ xs) s p m =
     ∙ ap (λ t. run fault left t xs) (sym (after_goes s p x m e)))
     (cases_Bool (ends_line s x)))
 
--- One more entry: without text it counts as skipped, with text the point is behind it.
+-- One more entry: without text it counts as skipped, with text the point is after it.
 pub cursor_skips : (s : Source) (k : ℕ) (e : Entry) → given_last_first s (k + 1) ≡ e ∷ given_last_first s k → has_no_text e ≡ true
     → is_encoding e ≡ false → cursor s (k + 1) ≡ record (cursor s k) { given = k + 1; skip = (cursor s k).skip + 1 }
 unfolding cursor cursor_at with_text

@@ -30,7 +30,7 @@ use Rattle.pylex_listing.specs.Steps.{entries_of, mark}
 use Rattle.pylex.specs.Cursors.{given_last_first, has_no_text, is_encoding, with_text, point, ends_in_indent, lexemes_to}
 use Rattle.pylex_listing.specs.Laws.{is_indent}
 use Rattle.pylex.specs.Cursors.{cursor_at, cursor}
-use Rattle.pylex_listing.specs.Machine.{State, past, behind, after, is_of_join, dedents_at, mark_at, line_end_kind_of, layout_of, entry_by}
+use Rattle.pylex_listing.specs.Machine.{State, past, following, after, is_of_join, dedents_at, mark_at, line_end_kind_of, layout_of, entry_by}
 use Rattle.pylex_listing.specs.Machine.{gives, is_hash, last_line_end, last_place, tail_of, stop_of, run, remaining, first_state}
 use Rattle.pylex.specs.Standing.{standing_by, standing, resumed, to_give, Resumes, StandsInAgreeing}
 use Rattle.pylex_listing.proofs.Callers.{state_of, state_push, IsBalanced, balanced_push, bytes_in-append, listing_is}
@@ -40,9 +40,9 @@ use Rattle.pylex.proofs.Resumption.Resumed.{resumed_start}
 use Rattle.pylex.proofs.MachineLaws.LexemeClasses.{lexeme_says}
 use Rattle.pylex.proofs.Resumption.Ahead.{ahead, Placed, placed_next, placed_first, history_is, ahead_runs, ahead_own, ahead_indented}
 use Rattle.pylex.proofs.Resumption.Ahead.{ahead_indented_stop}
-use Rattle.pylex.proofs.Callers.{is_behind}
+use Rattle.pylex.proofs.Callers.{is_following}
 
--- behind each entry with text there stands what is ahead by the cursor there
+-- after each entry with text there stands what is ahead by the cursor there
 abbrev Resumable : Source → List Step → Type 0
 Resumable s [] = Unit {0}
 Resumable s (steps.Entry e ∷ ss) =
@@ -114,13 +114,13 @@ entry_resumable s t x ss h r = by_class x.«class» x.text h
       kind = line_end_kind_of t;
       exact = None;
       start = t.now.place;
-      «end» = (behind t.now u).place;
+      «end» = (following t.now u).place;
       «from» = t.now.offset;
-      to = (behind t.now u).offset;
+      to = (following t.now u).offset;
     }) refl (h refl refl)
     by_class Join u h = r
 
--- behind an unmatched closing bracket nothing counts
+-- after an unmatched closing bracket nothing counts
 unmatched_resumable : (s : Source) (t : State) (x : Lexeme) (ss : List Step) → (closes x && (t.depth == 0)) ≡ true
     → Resumable s (entry_by t x ++ ss)
 unfolding entry_by
@@ -194,7 +194,7 @@ stop_resumable s h text left p =
     by_fault (Some f) = tt
     by_fault None = tail_resumable s (state_of h)
 
--- one lexeme, and what is behind it
+-- one lexeme, and what is after it
 own_resumable : (s : Source) (h xs : List Lexeme) (x : Lexeme) (text left : List ℕ) → (p : Placed s h (x ∷ xs) text left) → IsBalanced h
     → (IsBalanced (x ∷ h) → Resumable s (run s.fault left (state_of (x ∷ h)) xs))
     → Resumable s (entry_by (state_of h) x ++ run s.fault left (after (state_of h) x) xs)
@@ -382,4 +382,4 @@ resumes v s k h = ap to_give h.is ∙ at_each s k h.within
 
 -- a cursor of a source stands in each source that agrees with it from its line on
 pub stands_in_agreeing : StandsInAgreeing
-stands_in_agreeing a b c h g = let own = is_behind h in record { within = own.within; is = agreeing a b c g ∙ ap (standing_by a) own.is }
+stands_in_agreeing a b c h g = let own = is_following h in record { within = own.within; is = agreeing a b c g ∙ ap (standing_by a) own.is }

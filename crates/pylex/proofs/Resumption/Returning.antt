@@ -1,4 +1,4 @@
--- Back to the point of a cursor: the entries without text behind it were given last.
+-- Back to the point of a cursor: the entries without text after it were given last.
 --
 -- Carries: at_point, resume. On: Cursoring, Resume, Moving, Looking and 2 more.
 use Rattle.std.proofs.Common.{◌≡◌, ℕ, zero, suc, ◌+◌, ◌-◌, ◌<◌, ◌≤◌, true, false, List, ◌∷◌, ◌++◌, length, take, drop, refl, ap}
@@ -32,7 +32,7 @@ use Rattle.pylex.proofs.Resumption.Cursoring.{cursor_first, no_skip, offset_of_r
 use Rattle.pylex.proofs.Resumption.CursorBounds.{shown_fits}
 use Rattle.pylex_lexeme.proofs.Callers.Fronts.{length-text}
 use Rattle.pylex.proofs.Listers.Moving.{first_at, listing_length, entry_due}
-use Rattle.pylex.proofs.Callers.{is_behind, is_own}
+use Rattle.pylex.proofs.Callers.{is_following, is_own}
 use Rattle.pylex.proofs.Resumption.Skips.{skip_at}
 
 one_given : (a : Source) → cursor a 1 ≡ record (cursor a 0) { given = 1 }
@@ -42,7 +42,7 @@ one_given a =
     ∙ cursor_first a
     ∙ sym (ap (λ (c : CursorParts). record c { given = 1 }) (cursor_is a 0 ∙ ap (cursor_by a 0) (none_given a)))
 
--- the cursor before the entries without text behind its point
+-- the cursor before the entries without text after its point
 record Back (a : Source) (m k : ℕ) : Type 0 where
   within : m ≤ k
   is : cursor a (k - m) ≡ record (cursor a k) { given = k - m; skip = 0 }
@@ -95,8 +95,8 @@ cursor_back a (suc m) (suc j) w e =
 pub stands_back : (l : Listed) (a : Source) → StandsIn l a l.shown.given
     → StandsIn (record l { shown = record l.shown { given = l.shown.given - l.shown.skip; skip = 0 } }) a (l.shown.given - l.shown.skip)
 stands_back l a h =
-    let c : l.shown ≡ cursor a l.shown.given = (is_behind h.cursor).is in
-    let w = (is_behind h.cursor).within in
+    let c : l.shown ≡ cursor a l.shown.given = (is_following h.cursor).is in
+    let w = (is_following h.cursor).within in
     let b = cursor_back a l.shown.skip l.shown.given w (ap (λ (p : CursorParts). p.skip) (sym c)) in
     record {
       cursor = is_own (record {
@@ -108,7 +108,7 @@ stands_back l a h =
     }
 
 pub skip_in_given : (l : Listed) (a : Source) → StandsIn l a l.shown.given → l.shown.skip ≤ l.shown.given
-skip_in_given l a h = let own = is_behind h.cursor in
+skip_in_given l a h = let own = is_following h.cursor in
     (cursor_back a l.shown.skip l.shown.given own.within (ap (λ (p : CursorParts). p.skip) (sym own.is))).within
 
 pub led_stands : (c : CursorParts) (p : Parts) → (h : LeadsInto c p) → StandsIn (record { source = p; shown = c }) h.0 c.given
@@ -266,7 +266,7 @@ pub goes_back_on : (c : CursorParts) (p : Parts) (new : Listed) (a : Source) (st
     → Agrees a (in_characters p) c.offset → (slice_get (listing a) ((c.given - c.skip) + i) ≡ Some step) × StandsIn new a
     (((c.given - c.skip) + i) + entries_in step) → StandsIn new a ((c.given - c.skip) + (i + 1))
 goes_back_on c p new a step i less is agrees moved =
-    let w = (is_behind is).within in
+    let w = (is_following is).within in
     let s = skip_in_given (record { source = p; shown = c }) a (record { cursor = is; count = refl; agrees = agrees }) in
     let due = entry_due a ((c.given - c.skip) + i) step (omega arith) moved.0 in
     let one : entries_in step ≡ 1 = ap entries_in due.1 in
@@ -278,5 +278,5 @@ pub arrives : (c : CursorParts) (p : Parts) (l : Listed) (i : ℕ) → (h : Lead
 arrives c p l i h stands all source =
     let s = skip_led c p h in
     let n : (c.given - c.skip) + i ≡ c.given = omega arith in
-    let shown : l.shown ≡ c = (is_behind stands.cursor).is ∙ ap (cursor h.0) (stands.count ∙ n) ∙ sym (is_behind h.1.0).is in
+    let shown : l.shown ≡ c = (is_following stands.cursor).is ∙ ap (cursor h.0) (stands.count ∙ n) ∙ sym (is_following h.1.0).is in
     ap (λ q. record l { source = q }) source ∙ ap (λ d. record { source = p; shown = d }) shown

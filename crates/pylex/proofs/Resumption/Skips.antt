@@ -1,4 +1,4 @@
--- How many entries without text can follow one another behind a cursor's point.
+-- How many entries without text can follow one another after a cursor's point.
 --
 -- Carries: skip_within, for Moving. On: Blocks, Cursoring, Resume, Layouts and 8 more.
 use Rattle.std.proofs.Common.{◌≡◌, ℕ, zero, suc, ◌+◌, ◌-◌, ◌≤◌, ◌<◌, Bool, true, false, not, ◌&&◌, ◌||◌, ◌==◌, cond, List, [], ◌∷◌, ◌++◌}
@@ -40,7 +40,7 @@ use Rattle.pylex.proofs.Levels.OpenLevels.{Grounded}
 use Rattle.pylex.proofs.Resumption.CursorBounds.{small_parts}
 use Rattle.pylex.proofs.Resumption.Cursoring.{given_next, not_encoding, ahead_is, given_of, first_skip, no_skip}
 use Rattle.pylex.proofs.Resumption.Resuming.{resumes}
-use Rattle.pylex.proofs.Callers.{is_behind}
+use Rattle.pylex.proofs.Callers.{is_following}
 
 -- at most n entries without text stand before the first with text, or before the end
 abbrev Leads : ℕ → List Step → Type 0
@@ -419,5 +419,5 @@ skip_of a zero w = let z = no_skip a in omega arith
 skip_of a (suc j) w = let o : j + 1 ≡ suc j = omega arith in let s = subst (SkipsFew a) o (skips_few a j (omega arith)) in s.few
 
 pub skip_within : (l : Listed) (a : Source) (k : ℕ) → StandsIn l a k → l.shown.skip ≤ length l.shown.levels + 1
-skip_within l a k h = subst (λ (c : CursorParts). c.skip ≤ length c.levels + 1) (sym (is_behind h.cursor).is)
-    (skip_of a l.shown.given (is_behind h.cursor).within)
+skip_within l a k h = subst (λ (c : CursorParts). c.skip ≤ length c.levels + 1) (sym (is_following h.cursor).is)
+    (skip_of a l.shown.given (is_following h.cursor).within)

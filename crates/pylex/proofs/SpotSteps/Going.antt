@@ -40,7 +40,7 @@ use Rattle.pylex.proofs.Callers.{same_cursor}
 use Rattle.pylex_listing.proofs.Callers.{bytes_in-append}
 use Rattle.pylex.proofs.MachineLaws.Told.{passed_room}
 use Rattle.pylex.proofs.Listing.Exactness.{own_text}
-use Rattle.pylex.proofs.Listers.Finding.{settles_same, entry_found, some_bytes, stands_after, behind_cut}
+use Rattle.pylex.proofs.Listers.Finding.{settles_same, entry_found, some_bytes, stands_after, after_cut}
 use Rattle.pylex.proofs.Listers.Moving.{leads_moves, goes_entry, given_fits, stop_in, Advances}
 use Rattle.pylex.proofs.Resumption.CursorBounds.{shown_fits}
 use Rattle.pylex.proofs.Resumption.Returning.{keeps_point}
@@ -316,7 +316,7 @@ module _ (p : Parts) (s t : Spot) (levels left : List ℕ) (k : Class) (front ba
     text = text;
     to = sym (ap (λ (q : Point). q.offset) (after_now now k (chars front))) ∙ offset;
     left =
-        let b = behind_cut left x.ahead.rest front back k looks.stands.utf8 x.ahead.cuts looks.behind in
+        let b = after_cut left x.ahead.rest front back k looks.stands.utf8 x.ahead.cuts looks.following in
         back_is p.text left back s.offset t.offset h.left_is b.0 b.1 x.offset;
   }
 

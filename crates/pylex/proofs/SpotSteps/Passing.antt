@@ -12,10 +12,10 @@ use Rattle.pylex_listing.specs.declared.point.Point.{Point}
 use Rattle.pylex.specs.declared.line_state.LineState.{LineState}
 use Rattle.pylex_listing.specs.Lines.{count_if}
 use Rattle.pylex_listing.specs.Machine.{State, past, after, entry_by}
-use Rattle.pylex.specs.LineState.{with_levels, Stands, Comes, Behind}
+use Rattle.pylex.specs.LineState.{with_levels, Stands, Comes, Following}
 use Rattle.pylex.specs.Inner.Told.{Passed}
 use Rattle.pylex.specs.Spots.{Silent, here, blanks, join, rows_in}
-use Rattle.pylex.proofs.Listers.Finding.{stays_there, settles_same, nothing_found, some_bytes, stands_after, behind_cut, margin_past}
+use Rattle.pylex.proofs.Listers.Finding.{stays_there, settles_same, nothing_found, some_bytes, stands_after, after_cut, margin_past}
 use Rattle.pylex.proofs.MachineLaws.Told.{passed_room, blanks_give, join_gives}
 use Rattle.pylex.proofs.SpotSteps.Rows.{rows_told}
 
@@ -67,7 +67,7 @@ pub record Looks (p : LineState) (left rest : List ℕ) (rows : ℕ) : Type 0 wh
   pub depth : now.depth ≡ p.depth
   pub row : now.now.place.row ≡ p.now.place.row + rows
   pub comes : (levels : List ℕ) → Comes levels p (chars left) now (chars rest)
-  pub behind : Behind left rest
+  pub following : Following left rest
 
 -- past one lexeme more
 past_on : (p : LineState) (left rest front back : List ℕ) (k : Class) (m n : ℕ) → (i : Looks p left rest m) → Cuts rest k front back
@@ -90,7 +90,7 @@ past_on p left rest front back k m n i c gives logical depth rows =
       row = omega (arith, row, i.row, rows);
       comes = λ levels. nothing_found levels p (chars left) now now next rest front back k (i.comes levels)
           (settles_same levels now (chars rest) (rw i.margin refl)) c gave passed;
-      behind = behind_cut left rest front back k i.stands.utf8 c i.behind;
+      following = after_cut left rest front back k i.stands.utf8 c i.following;
     }
 
 blanks_logical : (p : LineState) (t : List ℕ) → p.logical ≡ true → (line_after p Blanks t).logical ≡ true
@@ -112,7 +112,7 @@ looks_on p left stands margin logical rest n here = record {
   depth = refl;
   row = omega arith;
   comes = λ levels. stays_there levels p (chars left);
-  behind = ([], refl);
+  following = ([], refl);
 }
 looks_on p left stands margin logical rest n (blanks bs front back m s c) =
     let i = looks_on p left stands margin logical bs m s in

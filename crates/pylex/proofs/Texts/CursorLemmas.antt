@@ -11,7 +11,7 @@ use denote.Ref.{Bor}
 use Rattle.std.specs.Prelude.{MatchOption}
 use Rattle.std.specs.Option.{IsSomeAnd}
 use Rattle.std.specs.Str.Pattern.{FindsTextPrefix, StripsPrefix}
-use Rattle.pylex.proofs.Texts.LinesLemmas.{behind}
+use Rattle.pylex.proofs.Texts.LinesLemmas.{following}
 use Rattle.std.proofs.Common.{Option, Some, None, add-one, length-take-le}
 use Rattle.std.proofs.Math.Seq.{take-suc, take-suc-set, drop-cons}
 use Rattle.std.proofs.Common.{ap₂, set}
@@ -47,7 +47,7 @@ Lacks s xs = All (λ b. b ≢ s) xs
 all_lacks : (s n : ℕ) → s < 48 → Lacks s (decimal n)
 all_lacks s n low = All-weaker (λ b. 48 ≤ b) (λ b. b ≢ s) (λ b high e. omega (arith, high, e, low)) (decimal n) (decimal_high n)
 
--- what stands before the first separator, and what stands behind it
+-- what stands before the first separator, and what stands after it
 separated : (s : ℕ) (us vs x y : List ℕ) → Lacks s us → Lacks s vs → us ++ s ∷ x ≡ vs ++ s ∷ y → (us ≡ vs) × (x ≡ y)
 separated s [] [] x y p q e = (refl, cc)
 separated s [] (v ∷ vs) x y p q e = absurd (All-head (λ b. b ≢ s) v vs q (cc))
@@ -57,7 +57,7 @@ separated s (u ∷ us) (v ∷ vs) x y p q e =
     let front = rest.0 in
     (cc front, rest.1)
 
--- without a separator there is nothing behind one
+-- without a separator there is nothing after one
 not_separated : (s : ℕ) (us vs y : List ℕ) → Lacks s us → us ≡ vs ++ s ∷ y → ⊥
 not_separated s [] [] y p e = cc
 not_separated s [] (v ∷ vs) y p e = cc
@@ -67,7 +67,7 @@ not_separated s (u ∷ us) (v ∷ vs) y p e = not_separated s us vs y (All-tail 
 abbrev pub Words : List ℕ → Type 0
 Words ns = All (λ n. n < 2 ^ 64) ns
 
--- numbers, with a blank behind each
+-- numbers, with a blank after each
 abbrev pub with_blanks : List ℕ → List ℕ
 with_blanks ns = flat_map (λ n. decimal n ++ 32 ∷ []) ns
 
@@ -171,16 +171,16 @@ with_commas-push x (y ∷ ys) n =
     ap (λ t. decimal x ++ codes "," ++ t) (with_commas-push y ys n)
     ∙ sym (append_assoc (decimal x ++ codes ",") (with_commas (y ∷ ys)) (44 ∷ decimal n))
 
-push_behind : (xs : List ℕ) (n : ℕ) → 0 < length xs → with_commas (xs ++ n ∷ []) ≡ with_commas xs ++ 44 ∷ decimal n
-push_behind [] n some = absurd (omega (arith, some))
-push_behind (x ∷ xs) n some = with_commas-push x xs n
+push_after : (xs : List ℕ) (n : ℕ) → 0 < length xs → with_commas (xs ++ n ∷ []) ≡ with_commas xs ++ 44 ∷ decimal n
+push_after [] n some = absurd (omega (arith, some))
+push_after (x ∷ xs) n some = with_commas-push x xs n
 
 -- the numbers joined so far, and one more
 pub joined_more : (xs : List ℕ) (i : ℕ) → i < length xs → 0 < i → with_commas (take (i + 1) xs) ≡ with_commas (take i xs) ++ 44
     ∷ decimal (get_or xs i 0)
 joined_more xs i inside some =
     ap with_commas (rw add-one (take-suc xs i 0 inside))
-    ∙ push_behind (take i xs) (get_or xs i 0) (let within : i ≤ length xs = omega (arith, inside) in rw length-take-le some)
+    ∙ push_after (take i xs) (get_or xs i 0) (let within : i ≤ length xs = omega (arith, inside) in rw length-take-le some)
 
 pub joined_first : (xs : List ℕ) → 0 < length xs → with_commas (take 1 xs) ≡ decimal (get_or xs 0 0)
 joined_first [] some = absurd (omega (arith, some))
@@ -205,10 +205,10 @@ get_fits ns i fits inside = fits i 0 inside
 pub written_more : (base before comma new xs : List ℕ) (i : ℕ) → i < length xs → 0 < i → before ≡ base ++ with_commas (take i xs)
     → comma ≡ before ++ 44 ∷ []
     → new ≡ comma ++ decimal (get_or xs i 0) → new ≡ base ++ with_commas (take (i + 1) xs)
-written_more base before comma new xs i inside some so_far behind pushed =
+written_more base before comma new xs i inside some so_far following pushed =
     let n : List ℕ = decimal (get_or xs i 0) in
     let all : with_commas (take (i + 1) xs) ≡ with_commas (take i xs) ++ 44 ∷ n = joined_more xs i inside some in
-    pushed ∙ ap (λ t. t ++ n) (behind ∙ ap (λ t. t ++ 44 ∷ []) so_far)
+    pushed ∙ ap (λ t. t ++ n) (following ∙ ap (λ t. t ++ 44 ∷ []) so_far)
     ∙ append_assoc (base ++ with_commas (take i xs)) (44 ∷ []) n ∙ append_assoc base (with_commas (take i xs)) (44 ∷ n)
     ∙ ap (λ t. base ++ t) (sym all)
 
@@ -264,14 +264,14 @@ row_read c ns numbers h none =
     let low = h.from_one in
     omega (arith, row, low, none)
 
--- what stands behind the word in front
+-- what stands after the word in front
 pub stripped : (r : Option (Bor (List ℕ))) (p s body : List ℕ)
     → MatchOption r (FindsTextPrefix p s None) (λ x. StripsPrefix (FindsTextPrefix p) s x.now) → s ≡ p ++ body
     → IsSomeAnd r (λ x. x.now ≡ body)
 stripped None p s body cases whole = absurd (cases body whole)
-stripped (Some x) p s body cases whole = cases.2 ∙ behind p body s cases.0 whole cases.1.0
+stripped (Some x) p s body cases whole = cases.2 ∙ following p body s cases.0 whole cases.1.0
 
--- a cursor's text behind the word in front
+-- a cursor's text after the word in front
 pub text_body : (c : CursorParts) (text : List ℕ) → cursor_text c ≡ text
     → text ≡ codes "pytok1 " ++ (with_blanks (numbers_of c) ++ with_commas c.levels)
 text_body c text same = sym same ∙ cursor_text_is c

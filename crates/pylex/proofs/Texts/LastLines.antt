@@ -83,10 +83,10 @@ clean_bytes (b ∷ bs) h =
 clean_line : (line : List ℕ) → IsUtf8 line → ((k : ℕ) → k < length line → get_or line k 0 ≢ 10) → list_all goes_on (chars line) ≡ true
 clean_line line u h = clean_chars (chars line) (ap (list_all goes_on) (encodes-chars line u) ∙ clean_bytes line h)
 
-pub line_behind : (text line : List ℕ) (at : ℕ) → IsUtf8 text → IsUtf8 line → (j : ℕ) × RFindsChar 10 text (Some (at, j)) × (at ≤ j) ×
+pub line_following : (text line : List ℕ) (at : ℕ) → IsUtf8 text → IsUtf8 line → (j : ℕ) × RFindsChar 10 text (Some (at, j)) × (at ≤ j) ×
     IsCharBoundary text at × IsCharBoundary text j → line ≡ drop (at + 1) text → chars line ≡ last_line (chars text)
 unfolding lib.Utf8.encode chars
-line_behind text line at u v f e =
+line_following text line at u v f e =
     let g = rfind_char 10 text (Some at) f (omega arith) in
     let whole : text ≡ take at text ++ 10 ∷ line = sym (take-append-drop at text) ∙ ap (λ t. take at text ++ t) (drop-cons text at 0 g.0
     ∙ ap (λ b. b ∷ drop (suc at) text) g.1 ∙ ap (λ t. 10 ∷ t) (ap (λ n. drop n text) (sym (next at)) ∙ sym e)) in

@@ -55,9 +55,9 @@ two_digits n some small =
     let whole : n / 10 % 10 ≡ n / 10 = omega arith in
     rw (more, none, whole) (ap₂ (λ g h. g ∷ h ∷ []) (glyph (n / 10) (omega arith)) (glyph (n % 10) (omega arith)))
 
--- what stands behind the first of what stands from a place on
-pub drop_behind : (next at x : ℕ) (rest all : List ℕ) → at + 1 ≡ next → drop at all ≡ x ∷ rest → drop next all ≡ rest
-drop_behind next at x rest all step here =
+-- what stands after the first of what stands from a place on
+pub drop_after : (next at x : ℕ) (rest all : List ℕ) → at + 1 ≡ next → drop at all ≡ x ∷ rest → drop next all ≡ rest
+drop_after next at x rest all step here =
     ap (λ n. drop n all) (sym step) ∙ sym (drop-drop 1 at all) ∙ ap (λ (t : List ℕ). drop 1 t) here
 
 place_ascii : (p : Place) → IsAscii (shown_place p)
@@ -97,9 +97,9 @@ field_filled width taken text old written new front count back =
     back ∙ ap (λ n. written ++ replicate (width - n) 32) count ∙ ap (λ bs. bs ++ replicate (width - length (chars text)) 32) front
     ∙ append_assoc old text (replicate (width - length (chars text)) 32)
 
--- what stands behind an earlier text
-pub behind : (old more new : List ℕ) (n : ℕ) → new ≡ old ++ more → n ≡ length old → drop n new ≡ more
-behind old more new n whole size = rw (
+-- what stands after an earlier text
+pub following : (old more new : List ℕ) (n : ℕ) → new ≡ old ++ more → n ≡ length old → drop n new ≡ more
+following old more new n whole size = rw (
   whole,
   size,
   drop-append-le (length old) old more (omega arith),
@@ -111,12 +111,12 @@ pub three_parts : (old a b c x y new : List ℕ) → x ≡ old ++ a → y ≡ x 
 three_parts old a b c x y new first second third =
     third ∙ ap (λ bs. bs ++ c) (second ∙ ap (λ bs. bs ++ b) first ∙ append_assoc old a b) ∙ append_assoc old (a ++ b) c
 
--- what stands behind a text that blanks were appended to, and the text with fewer of them
+-- what stands after a text that blanks were appended to, and the text with fewer of them
 pub blank_at : (old : List ℕ) (n i : ℕ) (new : List ℕ) → new ≡ old ++ replicate n 32 → length old ≤ i → i < length new → get_or new i 0 ≡ 32
-blank_at old n i new grown behind inside =
+blank_at old n i new grown following inside =
     let size : length new ≡ length old + n = ap length grown ∙ length-append old (replicate n 32)
     ∙ ap (λ m. length old + m) (length-replicate n 32) in
-    ap (λ bs. get_or bs i 0) grown ∙ get_or-append_right old (replicate n 32) (length old) i 0 refl behind
+    ap (λ bs. get_or bs i 0) grown ∙ get_or-append_right old (replicate n 32) (length old) i 0 refl following
     ∙ get_or-replicate n (i - length old) 32 0 (omega (arith, size))
 
 pub cut_filling : (old : List ℕ) (n k at : ℕ) (new : List ℕ) → k ≤ n → at ≡ length old → new ≡ old ++ replicate n 32
@@ -209,7 +209,7 @@ plain_field text plain short =
     (ap (λ k. 39 ∷ (text ++ 39 ∷ replicate k 32)) rest
     ∙ ap (λ (bs : List ℕ). 39 ∷ bs) (sym (append_assoc text (39 ∷ []) (replicate (15 - (length text + 2)) 32))))
 
--- the line's end behind it
+-- the line's end after it
 ended_field : (text : List ℕ) → list_all is_plain text ≡ true → length text ≤ 13
     → 39 ∷ (text ++ 39 ∷ (replicate (13 - length text) 32 ++ 10 ∷ [])) ≡ filled 15 (repr_text (chars text)) ++ codes "\n"
 ended_field text plain short =

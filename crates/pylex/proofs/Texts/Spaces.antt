@@ -19,7 +19,7 @@ use Rattle.pylex_lexeme.proofs.Callers.Lexemes.{blanks_take}
 use Rattle.pylex.specs.Inner.Plain.{AreSpaces, SpacesAhead}
 use Rattle.pylex_listing.proofs.Callers.{longest_wins, significant_is}
 use Rattle.pylex.proofs.MachineLaws.Walking.{past}
-use Rattle.pylex.proofs.Listers.Finding.{behind_first}
+use Rattle.pylex.proofs.Listers.Finding.{following_first}
 use Rattle.pylex.proofs.Texts.Plain.{plain_ascii, plain_chars, spaces_plain}
 
 pub are_spaces : (n : ℕ) → AreSpaces (replicate n 32)
@@ -51,9 +51,9 @@ some_begins : (n : ℕ) (cs : List ℕ) → 0 < n → begins is_blank_char (repl
 some_begins zero cs some = absurd (omega (arith, some))
 some_begins (suc n) cs some = refl
 
-pub behind_spaces : (n : ℕ) (cs : List ℕ) → drop n (replicate n 32 ++ cs) ≡ cs
-behind_spaces zero cs = refl
-behind_spaces (suc n) cs = behind_spaces n cs
+pub after_spaces : (n : ℕ) (cs : List ℕ) → drop n (replicate n 32 ++ cs) ≡ cs
+after_spaces zero cs = refl
+after_spaces (suc n) cs = after_spaces n cs
 
 -- of a class that is told the lexeme is
 record Found (o : Option Lexeme) (k : Class) : Type 0 where
@@ -76,8 +76,8 @@ first_blanks n ds some other =
     let x = found (lexeme_at cs) Blanks takes.«class» in
     let front = ((longest_wins cs).longest x.lexeme x.is).is_front in
     let rest : ds ≡ front.0 =
-    sym (behind_spaces n ds) ∙ ap (λ (m : ℕ). drop m cs) (sym (blank_run n ds other)) ∙ takes.rest
-    ∙ behind_first cs front.0 x.lexeme x.is front.1 in
+    sym (after_spaces n ds) ∙ ap (λ (m : ℕ). drop m cs) (sym (blank_run n ds other)) ∙ takes.rest
+    ∙ following_first cs front.0 x.lexeme x.is front.1 in
     let text : x.lexeme.text ≡ replicate n 32 =
     append_cancel_right x.lexeme.text (replicate n 32) ds (ap (λ (t : List ℕ). x.lexeme.text ++ t) rest ∙ sym front.1) in
     x.is ∙ ap Some (same_lexeme x.lexeme Blanks (replicate n 32) x.«class» text)
@@ -90,11 +90,11 @@ pub record Spaced (bs : List ℕ) (n : ℕ) : Type 0 where
 
 pub spaced : (bs : List ℕ) (n : ℕ) → IsUtf8 bs → SpacesAhead bs n → Spaced bs n
 spaced bs n utf8 is =
-    let behind = drop n bs in
+    let following = drop n bs in
     let spaces = replicate n 32 in
-    let whole : spaces ++ behind ≡ bs = ap (λ (t : List ℕ). t ++ behind) (sym is.spaces) ∙ take-append-drop n bs in
-    let split : IsUtf8 (spaces ++ behind) = subst IsUtf8 (sym whole) utf8 in
-    let same : chars bs ≡ spaces ++ chars behind = ap chars (sym whole) ∙ spaces_chars n behind split in
+    let whole : spaces ++ following ≡ bs = ap (λ (t : List ℕ). t ++ following) (sym is.spaces) ∙ take-append-drop n bs in
+    let split : IsUtf8 (spaces ++ following) = subst IsUtf8 (sym whole) utf8 in
+    let same : chars bs ≡ spaces ++ chars following = ap chars (sym whole) ∙ spaces_chars n following split in
     let plain = spaces_plain spaces (are_spaces n) in
     let front : chars (take n bs) ≡ spaces = ap chars is.spaces ∙ plain_chars spaces plain in
     let front_utf8 : IsUtf8 (take n bs) = subst IsUtf8 (sym is.spaces) (IsUtf8-from_ascii spaces (plain_ascii spaces plain)) in
@@ -103,18 +103,18 @@ spaced bs n utf8 is =
     record {
       boundary =
           subst (IsCharBoundary bs) (length-replicate n 32)
-          (IsCharBoundary-at_seam bs spaces behind (sym whole) (spaces_utf8 n behind split));
+          (IsCharBoundary-at_seam bs spaces following (sym whole) (spaces_utf8 n following split));
       front = subst AreSpaces (sym is.spaces) (are_spaces n);
       cuts = λ some other. record {
         lexeme =
-            ap lexeme_at same ∙ first_blanks n (chars behind) some other
+            ap lexeme_at same ∙ first_blanks n (chars following) some other
             ∙ ap (λ (t : List ℕ). Some (record { «class» = Blanks; text = t })) (sym front);
-        whole = same ∙ ap (λ (t : List ℕ). t ++ chars behind) (sym front);
+        whole = same ∙ ap (λ (t : List ℕ). t ++ chars following) (sym front);
         counted = sym (length-text (take n bs) front_utf8);
         sizes = omega (arith, size, length-drop n bs, is.within);
         nonempty = omega (arith, length_front, some);
         front_utf8 = front_utf8;
-        back_utf8 = spaces_utf8 n behind split;
+        back_utf8 = spaces_utf8 n following split;
       };
     }
 

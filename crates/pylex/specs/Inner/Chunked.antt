@@ -20,7 +20,7 @@ pub record Grows (old new : HeldLines) (from : ℕ) (line : List ℕ) : Type 0 w
   pub whole : string_bytes old.text ++ line ≡ gone ++ string_bytes new.text
   pub base : new.base ≡ old.base + length gone
   pub looked : (gone ≡ []) ⊎ (gone ≡ string_bytes old.text)
-  pub behind : 0 < length gone → drop from (string_bytes old.text) ≡ []
+  pub following : 0 < length gone → drop from (string_bytes old.text) ≡ []
   pub left : drop new.at (string_bytes new.text) ≡ drop from (string_bytes old.text) ++ line
 
 -- nothing that is held was changed

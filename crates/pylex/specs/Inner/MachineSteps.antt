@@ -60,10 +60,10 @@ FaultsFirst peeked.Dedent fault step = Unit {0}
 FaultsFirst peeked.Stop fault step = OnSome fault (IsNoEntry step)
 
 -- a step that is no entry comes of a fault or a stop, and changes nothing
-abbrev pub StaysBehind : Machine → Peeked → Machine → Step → Type 0
-StaysBehind old met new (steps.Entry e) = Unit {0}
-StaysBehind old met new steps.End = (new ≡ old) × ((met ≡ peeked.Stop) ⊎ ((f : ListingFault) × (met ≡ peeked.Fault f)))
-StaysBehind old met new (steps.Fault g) = (new ≡ old) × ((met ≡ peeked.Stop) ⊎ ((f : ListingFault) × (met ≡ peeked.Fault f)))
+abbrev pub StaysAfter : Machine → Peeked → Machine → Step → Type 0
+StaysAfter old met new (steps.Entry e) = Unit {0}
+StaysAfter old met new steps.End = (new ≡ old) × ((met ≡ peeked.Stop) ⊎ ((f : ListingFault) × (met ≡ peeked.Fault f)))
+StaysAfter old met new (steps.Fault g) = (new ≡ old) × ((met ≡ peeked.Stop) ⊎ ((f : ListingFault) × (met ≡ peeked.Fault f)))
 
 -- From a machine to another by a step: in each source in which a lister stood so, before a text in which it finds what was met, that step
 -- comes next. A text may continue after what was looked at, if that makes no other end.

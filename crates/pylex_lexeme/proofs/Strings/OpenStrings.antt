@@ -21,7 +21,7 @@ or_false : (b : Bool) → (b || false) ≡ b
 or_false true = refl
 or_false false = refl
 
--- The first unit of a text, and those behind it.
+-- The first unit of a text, and those after it.
 units_step : (a : ℕ) (t : List ℕ) → units (a ∷ t) ≡ take (unit_len (a ∷ t)) (a ∷ t) ∷ units (drop (unit_len (a ∷ t)) (a ∷ t))
 unfolding unit_len
 units_step a t =
@@ -114,10 +114,10 @@ opens_by (Some k) cs s n = sym (string_opens k cs s)
 joined_starts : Starts not_quote is_joined
 joined_starts c t e = let p = not-true ((c == 39) || (c == 34)) e in rw p refl
 
-pub open_behind : (q n : ℕ) (cs r : List ℕ) → Which q → Opens n cs → r ≡ drop n cs → begins (λ c. c == q) r ≡ true
+pub open_following : (q n : ℕ) (cs r : List ℕ) → Which q → Opens n cs → r ≡ drop n cs → begins (λ c. c == q) r ≡ true
     → is_open_string cs ≡ (begins_quotes q r || ends_by_join q (units (drop 1 r)))
 unfolding is_open_string
-open_behind q n cs r w o e h =
+open_following q n cs r w o e h =
     let i = head_is q r h in
     let x : opens_triple cs ≡ begins_three r = triple_opens n cs o ∙ ap begins_three (sym e) in
     let y : after_prefix is_joined cs ≡ is_joined r = at_prefix is_joined joined_starts n cs o ∙ ap is_joined (sym e) in
@@ -129,7 +129,7 @@ open_behind q n cs r w o e h =
     joined q t (one e) = rw e refl
     joined q t (two e) = rw e refl
 
--- what begins with a quote stands behind no prefix where no quote does
+-- what begins with a quote stands after no prefix where no quote does
 at_no_quote : (p : List ℕ → Bool) → p [] ≡ false → Starts not_quote p → (x : Bool) (r : List ℕ)
     → (x && begins_quote r) ≡ false → (x && p r) ≡ false
 at_no_quote p z s false r e = refl

@@ -1,4 +1,4 @@
--- The longest string behind a prefix.
+-- The longest string after a prefix.
 --
 -- Carries: prefix_and_quoted, quoted. On: StringBest, Best, Longest, Parts and 2 more.
 use Rattle.std.proofs.Common.{◌≡◌, ℕ, ◌+◌, ◌≤◌, ◌<◌, Bool, true, false, ◌&&◌, ◌||◌, ◌==◌, List, [], ◌∷◌, length, drop, take, map, refl, sym}
@@ -92,7 +92,7 @@ prefix_letters (a ∷ []) e = let x = letter a [] e in rw x refl
 prefix_letters (a ∷ b ∷ []) e = let x = letter a (b ∷ []) e in let y = letter_two a b [] e in rw (x, y) refl
 prefix_letters (a ∷ b ∷ c ∷ t) e = let z = no_prefix_three a b c t in cc
 
--- what stands behind the prefix
+-- what stands after the prefix
 pub prefix_best : (n : ℕ) (cs : List ℕ) → Opens n cs → IsBest is_prefix cs n
 prefix_best zero [] o = absurd (let h : false ≡ true = o.quote in cc)
 prefix_best zero (q ∷ t) o = record { within = omega arith; passes = o.«prefix»; longest = longer }

@@ -1,4 +1,4 @@
--- No lexeme but a string goes on behind a line feed.
+-- No lexeme but a string goes on after a line feed.
 --
 -- Carries: plain_none, for Kept. On: Best, Parts, Classes and 2 more.
 use Rattle.std.proofs.Common.{◌≡◌, ℕ, ◌<◌, Bool, true, false, ◌||◌, ◌==◌, not, List, [], ◌∷◌, ◌++◌, length, refl, sym, ◌∙◌, ap, arith}

@@ -19,14 +19,14 @@ use Rattle.pylex_lexeme.specs.Chunks.{EndsLine}
 use Rattle.pylex_lexeme.proofs.Fronts.Best.{Reads}
 use Rattle.pylex_lexeme.proofs.Strings.Units.{IsQuote}
 use Rattle.pylex_lexeme.proofs.Strings.StringLongest.{head_is, string_reads, longest_reads}
-use Rattle.pylex_lexeme.proofs.Strings.OpenStrings.{open_behind, open_none}
+use Rattle.pylex_lexeme.proofs.Strings.OpenStrings.{open_following, open_none}
 use Rattle.pylex_lexeme.proofs.Lexemes.Union.{plainly, string_takes, string_none}
 use Rattle.pylex_lexeme.proofs.Lexemes.Cutting.{none_is}
 use Rattle.pylex_lexeme.proofs.WholeLines.InLine.{plain_none}
 use Rattle.pylex_lexeme.proofs.WholeLines.LinedUnits.{lined, lined_tail, ends_lined, units_join, units_last, shift_none, single_kept}
 use Rattle.pylex_lexeme.proofs.WholeLines.LinedUnits.{triple_kept, stops_kept}
-use Rattle.pylex_lexeme.proofs.WholeLines.LineFronts.{opens_kept, triples_kept, quotes_kept, behind_quote, Quoted, quoted, quote_which}
-use Rattle.pylex_lexeme.proofs.WholeLines.LineFronts.{which_quote, behind_front, here_longer, opens_longer, drop_lined}
+use Rattle.pylex_lexeme.proofs.WholeLines.LineFronts.{opens_kept, triples_kept, quotes_kept, after_quote, Quoted, quoted, quote_which}
+use Rattle.pylex_lexeme.proofs.WholeLines.LineFronts.{which_quote, after_front, here_longer, opens_longer, drop_lined}
 
 -- Longest fronts
 pub same_within : (p q : List ℕ → Bool) (cs es : List ℕ) (m : ℕ) → m ≤ length cs → ((t : List ℕ) → p t ≡ q t)
@@ -137,7 +137,7 @@ quoted_kept q (a ∷ t) es k h l e =
     ⊎_elim
     (λ (f : begins_quotes q (a ∷ t) ≡ true). rw (s ∙ f, f) (three t f l e))
     (λ (f : begins_quotes q (a ∷ t) ≡ false). rw (s ∙ f, f)
-    (ap (shift 1) (single_len_kept q t es (behind_quote q a t k h l) (lined_tail a t l) (one f e))))
+    (ap (shift 1) (single_len_kept q t es (after_quote q a t k h l) (lined_tail a t l) (one f e))))
     (cases_Bool (begins_quotes q (a ∷ t)))
   where
     one : begins_quotes q (a ∷ t) ≡ false → Ends q (a ∷ t) → (0 < single_len q t) ⊎ (ends_by_join q (units t) ≡ false)
@@ -163,7 +163,7 @@ reads_at q n cs o h = string_reads q n cs (drop 1 (drop n cs)) (quote_which q n 
 
 len_kept_at : (q n : ℕ) (cs es : List ℕ) → EndsLine cs → Opens n cs → begins (λ c. c == q) (drop n cs) ≡ true → Ends q (drop n cs)
     → quoted_len q (drop n (cs ++ es)) ≡ quoted_len q (drop n cs)
-len_kept_at q n cs es l o h e = ap (quoted_len q) (behind_front n cs es o)
+len_kept_at q n cs es l o h e = ap (quoted_len q) (after_front n cs es o)
     ∙ quoted_kept q (drop n cs) es (which_quote q (quote_which q n cs o h)) h (drop_lined n cs (ends_lined cs l)) e
 
 none_string : (q n : ℕ) (cs es : List ℕ) → EndsLine cs → opens_string cs ≡ true → Opens n cs → begins (λ c. c == q) (drop n cs) ≡ true
@@ -210,7 +210,7 @@ none_longer cs es l k = ⊎_elim (λ (s : opens_string cs ≡ true). string s (q
     ends v s (suc m) e k = inl (omega arith)
     ends v s zero e (inl x) = absurd (let f : Some x.0 ≡ None = sym x.1 ∙ none_at v.q v.n cs s v.opens v.here e in cc)
     ends v s zero e (inr f) =
-        inr (sym (open_behind v.q v.n cs (drop v.n cs) (quote_which v.q v.n cs v.opens v.here) v.opens refl v.here) ∙ f)
+        inr (sym (open_following v.q v.n cs (drop v.n cs) (quote_which v.q v.n cs v.opens v.here) v.opens refl v.here) ∙ f)
 
     string : opens_string cs ≡ true → Quoted cs → NoLonger cs es
     string s v = none_string v.q v.n cs es l s v.opens v.here (ends v s (quoted_len v.q (drop v.n cs)) refl k)
@@ -233,7 +233,7 @@ open_stops q [] es k h l z g = cc
 open_stops q (a ∷ t) es k h l z g =
     let p = or_parts (begins_quotes q (a ∷ t)) (ends_by_join q (units t)) g in
     let u : shift 1 (single_of q (units t)) ≡ 0 = rw p.0 at z in
-    let w = stops_kept q (units t) (units es) (units_last t (behind_quote q a t k h l) (lined_tail a t l))
+    let w = stops_kept q (units t) (units es) (units_last t (after_quote q a t k h l) (lined_tail a t l))
     (record { unclosed = shift_none 1 (single_of q (units t)) u; unjoined = p.1 }) in
     let j : ends_by_join q (units (t ++ es)) ≡ false = ap (ends_by_join q) (units_join t es (lined_tail a t l)) ∙ w.unjoined in
     rw (quotes_kept q k (a ∷ t) es refl l ∙ p.0, j) refl
@@ -246,8 +246,8 @@ open_kept cs es l e f = ⊎_elim (λ (s : opens_string cs ≡ true). string s (q
     string s v =
         let w = quote_which v.q v.n cs v.opens v.here in
         let b : (begins_quotes v.q (drop v.n cs) || ends_by_join v.q (units (drop 1 (drop v.n cs)))) ≡ false =
-        sym (open_behind v.q v.n cs (drop v.n cs) w v.opens refl v.here) ∙ f in
+        sym (open_following v.q v.n cs (drop v.n cs) w v.opens refl v.here) ∙ f in
         let g = open_stops v.q (drop v.n cs) es (which_quote v.q w) v.here (drop_lined v.n cs (ends_lined cs l))
         (none_read v.q v.n cs s v.opens v.here e) b in
-        open_behind v.q v.n (cs ++ es) (drop v.n cs ++ es) w (opens_longer v.n cs es v.opens) (sym (behind_front v.n cs es v.opens))
-        (ap (begins (λ c. c == v.q)) (sym (behind_front v.n cs es v.opens)) ∙ here_longer v.q v.n cs es v.opens v.here) ∙ g
+        open_following v.q v.n (cs ++ es) (drop v.n cs ++ es) w (opens_longer v.n cs es v.opens) (sym (after_front v.n cs es v.opens))
+        (ap (begins (λ c. c == v.q)) (sym (after_front v.n cs es v.opens)) ∙ here_longer v.q v.n cs es v.opens v.here) ∙ g

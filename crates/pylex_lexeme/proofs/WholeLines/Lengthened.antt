@@ -13,10 +13,10 @@ use Rattle.pylex_lexeme.specs.Lengths.{single_of, triple_of, single_len, triple_
 use Rattle.pylex_lexeme.specs.Chunks.{EndsLine}
 use Rattle.pylex_lexeme.proofs.Strings.Units.{IsQuote, nil_units}
 use Rattle.pylex_lexeme.proofs.Strings.StringLongest.{string_opens, triple_opens, quotes_three, head_is}
-use Rattle.pylex_lexeme.proofs.Strings.OpenStrings.{open_behind}
+use Rattle.pylex_lexeme.proofs.Strings.OpenStrings.{open_following}
 use Rattle.pylex_lexeme.proofs.WholeLines.LinedUnits.{lined, lined_tail, ends_lined, units_join, units_last, shift_none, joined_single}
-use Rattle.pylex_lexeme.proofs.WholeLines.LinedUnits.{joined_join, triple_behind, triple_crosses}
-use Rattle.pylex_lexeme.proofs.WholeLines.LineFronts.{triples_kept, behind_quote, quote_which, which_quote, behind_front, here_longer}
+use Rattle.pylex_lexeme.proofs.WholeLines.LinedUnits.{joined_join, triple_after, triple_crosses}
+use Rattle.pylex_lexeme.proofs.WholeLines.LineFronts.{triples_kept, after_quote, quote_which, which_quote, after_front, here_longer}
 use Rattle.pylex_lexeme.proofs.WholeLines.LineFronts.{opens_longer, drop_lined}
 use Rattle.pylex_lexeme.proofs.WholeLines.Kept.{none_at, none_read}
 
@@ -33,7 +33,7 @@ three_longer q (a ∷ b ∷ c ∷ t) line k h l e f =
     let i : lined t ≡ true = lined_tail c t m in
     let n : triple_of q (units t) ≡ 0 = shift_none 3 (triple_of q (units t)) (rw h at e) in
     let z : triple_of q (units (t ++ line)) ≡ 0 = ap (triple_of q) (units_join t line i)
-    ∙ triple_crosses q (units t) (units line) k (units_last t (behind_quote q c t k p.1 m) i) n f in
+    ∙ triple_crosses q (units t) (units line) k (units_last t (after_quote q c t k p.1 m) i) n f in
     rw (h, z) refl
 
 three_ended : (q : ℕ) (r line : List ℕ) → begins_quotes q r ≡ true → lined r ≡ true → quoted_len q (r ++ line) ≡ 0 → triple_len q line ≡ 0
@@ -44,7 +44,7 @@ three_ended q (a ∷ b ∷ []) line h l e = absurd (let p = and_parts ((a == q) 
 three_ended q (a ∷ b ∷ c ∷ t) line h l e =
     let i : lined t ≡ true = lined_tail c t (lined_tail b (c ∷ t) l) in
     let n : triple_of q (units (t ++ line)) ≡ 0 = shift_none 3 (triple_of q (units (t ++ line))) (rw h at e) in
-    triple_behind q (units t) (units line) (ap (triple_of q) (sym (units_join t line i)) ∙ n)
+    triple_after q (units t) (units line) (ap (triple_of q) (sym (units_join t line i)) ∙ n)
 
 one_longer : (q : ℕ) (r line : List ℕ) → begins (λ c. c == q) r ≡ true → begins_quotes q (r ++ line) ≡ false → lined r ≡ true
     → ends_by_join q (units (drop 1 r)) ≡ true → single_len q line ≡ 0 → quoted_len q (r ++ line) ≡ 0
@@ -73,7 +73,7 @@ pub triple_none : (q n : ℕ) (cs line : List ℕ) → EndsLine cs → Opens n c
 triple_none q n cs line l o h t e f =
     let p = opens_longer n cs line o in
     none_at q n (cs ++ line) (string_opens n (cs ++ line) p) p (here_longer q n cs line o h)
-    (ap (quoted_len q) (behind_front n cs line o)
+    (ap (quoted_len q) (after_front n cs line o)
     ∙ three_longer q (drop n cs) line (which_quote q (quote_which q n cs o h)) (quotes_by q n cs o h ∙ t)
     (drop_lined n cs (ends_lined cs l)) (none_read q n cs (string_opens n cs o) o h e) f)
 
@@ -82,7 +82,7 @@ pub triple_ended : (q n : ℕ) (cs line : List ℕ) → EndsLine cs → Opens n 
 triple_ended q n cs line l o h t e =
     let p = opens_longer n cs line o in
     three_ended q (drop n cs) line (quotes_by q n cs o h ∙ t) (drop_lined n cs (ends_lined cs l))
-    (ap (quoted_len q) (sym (behind_front n cs line o)) ∙ none_read q n (cs ++ line) (string_opens n (cs ++ line) p) p
+    (ap (quoted_len q) (sym (after_front n cs line o)) ∙ none_read q n (cs ++ line) (string_opens n (cs ++ line) p) p
     (here_longer q n cs line o h) e)
 
 pub triple_open : (cs line : List ℕ) → EndsLine cs → opens_triple cs ≡ true → is_open_string (cs ++ line) ≡ true
@@ -92,14 +92,14 @@ triple_open cs line l t = rw (triples_kept cs line l ∙ t) refl
 -- One quote
 is_joined : (q n : ℕ) (cs : List ℕ) → Opens n cs → begins (λ c. c == q) (drop n cs) ≡ true → opens_triple cs ≡ false
     → is_open_string cs ≡ ends_by_join q (units (drop 1 (drop n cs)))
-is_joined q n cs o h t = let f = quotes_by q n cs o h ∙ t in open_behind q n cs (drop n cs) (quote_which q n cs o h) o refl h ∙ rw f refl
+is_joined q n cs o h t = let f = quotes_by q n cs o h ∙ t in open_following q n cs (drop n cs) (quote_which q n cs o h) o refl h ∙ rw f refl
 
 pub single_none : (q n : ℕ) (cs line : List ℕ) → EndsLine cs → Opens n cs → begins (λ c. c == q) (drop n cs) ≡ true
     → opens_triple cs ≡ false → is_open_string cs ≡ true → single_len q line ≡ 0 → lexeme_at (cs ++ line) ≡ None
 single_none q n cs line l o h t j f =
     let p = opens_longer n cs line o in
     let g = here_longer q n cs line o h in
-    let d = behind_front n cs line o in
+    let d = after_front n cs line o in
     none_at q n (cs ++ line) (string_opens n (cs ++ line) p) p g
     (ap (quoted_len q) d
     ∙ one_longer q (drop n cs) line h (ap (begins_quotes q) (sym d) ∙ quotes_by q n (cs ++ line) p g ∙ triples_kept cs line l ∙ t)
@@ -109,7 +109,7 @@ pub single_open : (q n : ℕ) (cs line : List ℕ) → EndsLine cs → Opens n c
     → opens_triple cs ≡ false → is_open_string cs ≡ true → is_nil line ≡ false → is_open_string (cs ++ line) ≡ ends_by_join q (units line)
 single_open q n cs line l o h t j s =
     is_joined q n (cs ++ line) (opens_longer n cs line o) (here_longer q n cs line o h) (triples_kept cs line l ∙ t)
-    ∙ ap (λ r. ends_by_join q (units (drop 1 r))) (behind_front n cs line o)
+    ∙ ap (λ r. ends_by_join q (units (drop 1 r))) (after_front n cs line o)
     ∙ one_joins q (drop n cs) line h (drop_lined n cs (ends_lined cs l)) (sym (is_joined q n cs o h t) ∙ j) s
 
 -- What a reader of lines needs: the literal is open still

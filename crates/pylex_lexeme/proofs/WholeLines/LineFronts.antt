@@ -1,6 +1,6 @@
 -- What begins a text of whole lines is seen in it, whatever follows.
 --
--- Carries: triples_kept, here_longer, opens_longer, behind_quote and 8 more, for Kept, Lengthened,
+-- Carries: triples_kept, here_longer, opens_longer, after_quote and 8 more, for Kept, Lengthened,
 -- OpenLiterals. On: StringBest, LinedUnits, Best, Units and 2 more.
 use Rattle.std.proofs.Common.{◌≡◌, ℕ, ◌≤◌, ◌<◌, Bool, true, false, ◌&&◌, ◌||◌, ◌==◌, List, [], ◌∷◌, ◌++◌, length, take, drop, refl, ◌∙◌, ap}
 use Rattle.std.proofs.Common.{arith, zero, suc, ⊎_elim, length-drop}
@@ -97,10 +97,10 @@ quotes_kept q k (a ∷ []) es s l = let n = feed_no_quote q a k l in rw n refl
 quotes_kept q k (a ∷ b ∷ []) es s l = let n = feed_no_quote q b k l in rw n (rw (and_right (a == q) false refl) refl)
 quotes_kept q k (a ∷ b ∷ c ∷ t) es s l = refl
 
--- behind a quote the line goes on
-pub behind_quote : (q a : ℕ) (t : List ℕ) → IsQuote q → (a == q) ≡ true → lined (a ∷ t) ≡ true → is_nil t ≡ false
-behind_quote q a [] k h l = let n = feed_no_quote q a k l in cc
-behind_quote q a (c ∷ t) k h l = refl
+-- after a quote the line goes on
+pub after_quote : (q a : ℕ) (t : List ℕ) → IsQuote q → (a == q) ≡ true → lined (a ∷ t) ≡ true → is_nil t ≡ false
+after_quote q a [] k h l = let n = feed_no_quote q a k l in cc
+after_quote q a (c ∷ t) k h l = refl
 
 -- Significant tokens
 pub significant_kept : (cs es : List ℕ) → EndsLine cs → begins_significant (cs ++ es) ≡ begins_significant cs
@@ -167,8 +167,8 @@ opens_within n cs o = let d = length-drop n cs in let s : 0 < length (drop n cs)
     some [] e = cc
     some (c ∷ t) e = omega arith
 
-pub behind_front : (n : ℕ) (cs es : List ℕ) → Opens n cs → drop n (cs ++ es) ≡ drop n cs ++ es
-behind_front n cs es o = let h = opens_within n cs o in drop-append-le n cs es (omega arith)
+pub after_front : (n : ℕ) (cs es : List ℕ) → Opens n cs → drop n (cs ++ es) ≡ drop n cs ++ es
+after_front n cs es o = let h = opens_within n cs o in drop-append-le n cs es (omega arith)
 
 begins_more : (p : ℕ → Bool) (r es : List ℕ) → begins p r ≡ true → begins p (r ++ es) ≡ true
 begins_more p [] es e = cc
@@ -176,7 +176,7 @@ begins_more p (c ∷ t) es e = e
 
 pub here_longer : (q n : ℕ) (cs es : List ℕ) → Opens n cs → begins (λ c. c == q) (drop n cs) ≡ true
     → begins (λ c. c == q) (drop n (cs ++ es)) ≡ true
-here_longer q n cs es o h = ap (begins (λ c. c == q)) (behind_front n cs es o) ∙ begins_more (λ c. c == q) (drop n cs) es h
+here_longer q n cs es o h = ap (begins (λ c. c == q)) (after_front n cs es o) ∙ begins_more (λ c. c == q) (drop n cs) es h
 
 pub opens_longer : (n : ℕ) (cs es : List ℕ) → Opens n cs → Opens n (cs ++ es)
 opens_longer n cs es o =
@@ -184,7 +184,7 @@ opens_longer n cs es o =
     record {
       small = o.small;
       «prefix» = ap is_prefix (take-append-le n cs es (omega arith)) ∙ o.«prefix»;
-      quote = ap begins_quote (behind_front n cs es o) ∙ quote_more (drop n cs) es o.quote;
+      quote = ap begins_quote (after_front n cs es o) ∙ quote_more (drop n cs) es o.quote;
     }
   where
     quote_more : (r es : List ℕ) → begins_quote r ≡ true → begins_quote (r ++ es) ≡ true

@@ -175,9 +175,9 @@ stops_one q u h l s =
     by false true z l e = refl
     by false false z l e = let k : true ≡ false = sym l ∙ e in cc
 
-stops_behind : (q : ℕ) (u v : List ℕ) (us : List (List ℕ)) → is_unit q u ≡ false → (is_unit 13 u || is_unit 10 u) ≡ false
+stops_following : (q : ℕ) (u v : List ℕ) (us : List (List ℕ)) → is_unit q u ≡ false → (is_unit 13 u || is_unit 10 u) ≡ false
     → Stops q (u ∷ v ∷ us) → Stops q (v ∷ us)
-stops_behind q u v us h i s =
+stops_following q u v us h i s =
     let p = or_parts (is_unit 13 u) (is_unit 10 u) i in
     record {
       unclosed = (let e = s.unclosed in shift_none (length u) (single_of q (v ∷ us)) (rw (h, i) at e));
@@ -197,7 +197,7 @@ stops_kept q (u ∷ v ∷ us) vs l s =
     ⊎_elim
     (stops_here q u (v ∷ us ++ vs) h)
     (λ (i : (is_unit 13 u || is_unit 10 u) ≡ false). stops_later q u v (us ++ vs) h i
-    (stops_kept q (v ∷ us) vs l (stops_behind q u v us h i s)))
+    (stops_kept q (v ∷ us) vs l (stops_following q u v us h i s)))
     (cases_Bool (is_unit 13 u || is_unit 10 u))
 
 -- A literal that is open goes on in what follows
@@ -235,9 +235,9 @@ joined_join q (u ∷ v ∷ us) vs e f = let g = goes_by q u (ends_by_join q (v �
     ∙ joined_join q (v ∷ us) vs g.1 f
 
 -- Three quotes in what follows stand in the whole
-pub triple_behind : (q : ℕ) (us vs : List (List ℕ)) → triple_of q (us ++ vs) ≡ 0 → triple_of q vs ≡ 0
-triple_behind q [] vs e = e
-triple_behind q (u ∷ us) vs e = triple_behind q us vs (without (us ++ vs) e)
+pub triple_after : (q : ℕ) (us vs : List (List ℕ)) → triple_of q (us ++ vs) ≡ 0 → triple_of q vs ≡ 0
+triple_after q [] vs e = e
+triple_after q (u ∷ us) vs e = triple_after q us vs (without (us ++ vs) e)
   where
     without : (ws : List (List ℕ)) → triple_of q (u ∷ ws) ≡ 0 → triple_of q ws ≡ 0
     without [] e = refl

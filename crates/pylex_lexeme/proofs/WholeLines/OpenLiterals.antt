@@ -17,7 +17,7 @@ use Rattle.pylex_lexeme.specs.OpenLiterals.{IsOpenBy}
 use Rattle.pylex_lexeme.specs.declared.string.OpenLiteral.{OpenLiteral}
 use Rattle.pylex_lexeme.proofs.Strings.StringBest.{Which}
 use Rattle.pylex_lexeme.proofs.Strings.StringLongest.{triple_opens, quotes_three, head_is}
-use Rattle.pylex_lexeme.proofs.Strings.OpenStrings.{open_behind}
+use Rattle.pylex_lexeme.proofs.Strings.OpenStrings.{open_following}
 use Rattle.pylex_lexeme.proofs.WholeLines.LinedUnits.{joined_single}
 use Rattle.pylex_lexeme.proofs.WholeLines.LineFronts.{triples_kept, here_longer, opens_longer}
 use Rattle.pylex_lexeme.proofs.WholeLines.Lengthened.{triple_goes_on, single_goes_on, triple_ended, single_open}
@@ -39,14 +39,14 @@ opened o n cs r w p e h t u =
       here = ap (begins (λ c. c == quote_char o.quote)) (sym e) ∙ h;
       triple = triple_opens n cs p ∙ ap begins_three (sym e ∙ i) ∙ quotes_three (quote_char o.quote) (drop 1 r) w
           ∙ ap (begins_quotes (quote_char o.quote)) (sym i) ∙ sym t;
-      unended = open_behind (quote_char o.quote) n cs r w p e h ∙ sym u;
+      unended = open_following (quote_char o.quote) n cs r w p e h ∙ sym u;
     }
 
 pub unopened : (q n : ℕ) (cs r : List ℕ) → Which q → Opens n cs → r ≡ drop n cs → begins (λ c. c == q) r ≡ true
     → false ≡ (begins_quotes q r || ends_by_join q (units (drop 1 r))) → is_open_string cs ≡ false
-unopened q n cs r w p e h u = open_behind q n cs r w p e h ∙ sym u
+unopened q n cs r w p e h u = open_following q n cs r w p e h ∙ sym u
 
--- Behind one more line
+-- After one more line
 joins_unclosed : (q : ℕ) (line : List ℕ) → ends_by_join q (units line) ≡ true → single_len q line ≡ 0
 unfolding single_len
 joins_unclosed q line e = ap (single_of q) (sym (append-nil (units line))) ∙ joined_single q (units line) [] e refl

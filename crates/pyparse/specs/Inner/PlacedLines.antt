@@ -1,8 +1,8 @@
--- What is known of the places of a source behind some of its lines.
+-- What is known of the places of a source after some of its lines.
 use Rattle.std.specs.Prelude.{◌≡◌, ℕ, false, List, []}
 use Rattle.pylex_listing.specs.Listing.{Source}
 use Rattle.pytree_node.specs.declared.profiles.Profile.{Profile}
-use Rattle.pytoken.specs.Inner.Behind.{behind}
+use Rattle.pytoken.specs.Inner.Following.{following}
 use Rattle.pytoken.specs.Tokens as Tokens
 use Rattle.pygrammar.specs.Lines.{Line}
 use Rattle.pygrammar.specs.Refusals.{Formed}
@@ -25,7 +25,7 @@ pub record PlacedLines (profile : Profile) (earlier : List Line) (spans : Tokens
 pub record IsPlaced (profile : Profile) (s : Source) (k : ℕ) (p : PlacedProgress) : Type 0 where
   pub forms : List Line
   pub known : IsKnown profile s k forms p.progress.known
-  pub last_lines : HoldsLastLines (behind [] forms) p.progress.last_lines
+  pub last_lines : HoldsLastLines (following [] forms) p.progress.last_lines
   pub zs : List LinePlaces
   pub placed : is_unread p.progress.known ≡ false
       → PlacedLines profile [] (line_spans s.text) (first_lines s k) forms zs × Follows forms zs p.stack

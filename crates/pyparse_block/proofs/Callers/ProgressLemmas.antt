@@ -1,11 +1,11 @@
--- Carries: Known, Progress. On: what is known of a source behind one line more.
+-- Carries: Known, Progress. On: what is known of a source after one line more.
 use Rattle.std.proofs.Common.{◌≡◌, inl, inr, ℕ, zero, suc, ◌+◌, ◌≤◌, Bool, true, false, List, [], ◌∷◌, ◌++◌, length, take, refl, sym, ap}
 use Rattle.std.proofs.Common.{◌∙◌, subst, append_assoc, length-append, arith, Some}
 use Rattle.std.specs.Prelude.{slice_get}
 use Rattle.pysource.specs.declared.places.Place.{Place}
 use Rattle.pylex_listing.specs.Listing.{Source}
 use Rattle.pytree_node.specs.declared.profiles.Profile.{Profile}
-use Rattle.pytoken.specs.Inner.Behind.{behind}
+use Rattle.pytoken.specs.Inner.Following.{following}
 use Rattle.pytoken.specs.Tokens.{Token, lines}
 use Rattle.pytoken.specs.Tokens as Tokens
 use Rattle.pygrammar.specs.Lines.{Line, line}
@@ -90,7 +90,7 @@ none_deep n found = elim found [ ]
 -- ---- One line more.
 
 module _ {profile : Profile} {s : Source} {k : ℕ} (forms : List Line) {l : Line} {p : Place}
-    (comes : Comes profile s k (behind [] forms) l p) where
+    (comes : Comes profile s k (following [] forms) l p) where
   formed_next : Formed profile [] (first_lines s k) forms → Formed profile [] (first_lines s (k + 1)) (forms ++ l ∷ [])
   formed_next formed =
       let same : line comes.line.level l.form ≡ l = ap (λ (n : ℕ). line n l.form) (sym comes.level) in
@@ -108,7 +108,7 @@ module _ {profile : Profile} {s : Source} {k : ℕ} (forms : List Line) {l : Lin
       → IsSound profile s (k + 1) (forms ++ l ∷ []) o2 b2
   sound_on o2 b2 was deep none follows read =
       let step = follows forms was.follows in
-      let here : is_deep (beginning l (behind [] forms)) ≡ false = ap is_deep (sym (innermost_on forms l)) ∙ sym step.1 ∙ none in
+      let here : is_deep (beginning l (following [] forms)) ≡ false = ap is_deep (sym (innermost_on forms l)) ∙ sym step.1 ∙ none in
       record {
         formed = formed_next was.formed;
         follows = step.0;
@@ -117,7 +117,7 @@ module _ {profile : Profile} {s : Source} {k : ℕ} (forms : List Line) {l : Lin
             λ n found.
             elim (deep_parts [] forms l found) [
               | inl earlier ↦ was.low earlier.0 earlier.1
-              | inr last ↦ not_deep (beginning l (behind [] forms)) here last
+              | inr last ↦ not_deep (beginning l (following [] forms)) here last
             ];
       }
 
@@ -127,16 +127,16 @@ module _ {profile : Profile} {s : Source} {k : ℕ} (forms : List Line) {l : Lin
       → IsDeepAt profile s (k + 1) (forms ++ l ∷ []) o2 p
   deep_on o2 was deep some follows =
       let step = follows forms was.follows in
-      let here : is_deep (beginning l (behind [] forms)) ≡ true = ap is_deep (sym (innermost_on forms l)) ∙ sym step.1 ∙ some in
+      let here : is_deep (beginning l (following [] forms)) ≡ true = ap is_deep (sym (innermost_on forms l)) ∙ sym step.1 ∙ some in
       record {
         formed = formed_next was.formed;
         follows = step.0;
         n = length forms;
-        deep = deep_last [] forms l was.low (deep_is (beginning l (behind [] forms)) here);
+        deep = deep_last [] forms l was.low (deep_is (beginning l (following [] forms)) here);
         starts = subst (λ (n : ℕ). StartsAt s n p) (sym (number_of was.formed)) comes.starts;
       }
 
-  -- one behind it
+  -- one after it
   pub deep_next : {o : Outline} {q : Place} (o2 : Outline) (was : IsDeepAt profile s k forms o q) → (deep : Bool)
       → ((xs : List Line) → Follows xs o → Follows (xs ++ l ∷ []) o2 × (deep ≡ is_deep (innermost l (count [] xs))))
       → IsDeepAt profile s (k + 1) (forms ++ l ∷ []) o2 q
@@ -186,7 +186,7 @@ module _ {profile : Profile} {s : Source} {k : ℕ} (forms : List Line) {l : Lin
       → IsKnown profile s (k + 1) (forms ++ l ∷ []) known
   deep_faulty stop known was fails blames = faulty_by stop known was.formed fails (λ more. blames forms more was.follows)
 
-  -- one behind it
+  -- one after it
   pub faulty_next : {e : GrammarError} {q : Place} → IsFaultyAt profile s k forms e q → IsFaultyAt profile s (k + 1) (forms ++ l ∷ []) e q
   faulty_next was =
       let had = was.number in
@@ -205,7 +205,7 @@ module _ {profile : Profile} {s : Source} {k : ℕ} (forms : List Line) {l : Lin
         starts = was.starts;
       }
 
--- a line behind one without a form
+-- a line after one without a form
 pub unread_next : {profile : Profile} {s : Source} {k : ℕ} {e : GrammarError} {q : Place} (x : Tokens.Line) → slice_get (lines s) k ≡ Some x
     → IsUnreadAt profile s k e q →
     IsUnreadAt profile s (k + 1) e q
@@ -226,7 +226,7 @@ formed_all s k forms (Deep o p) is was = was.formed
 formed_all s k forms (Faulty e p) is was = was.formed
 formed_all s k forms (known.Unread e p) is was = absurd (cc)
 
--- nothing more is known behind one without a form
+-- nothing more is known after one without a form
 pub unread_stays : (profile : Profile) (s : Source) (k : ℕ) (forms : List Line) (known : Known) (r : LineReading)
     → is_unread known ≡ true → HoldsLine s k r →
     IsKnown profile s k forms known → IsKnown profile s (k + 1) forms known
@@ -238,7 +238,7 @@ unread_stays profile s k forms (known.Unread e p) r is held was = unread_next he
 -- a line without a form
 pub unread_first : {profile : Profile} {s : Source} {k : ℕ} (forms : List Line) (known : Known) (x : Tokens.Line) (e : GrammarError)
     (p : Place) → is_unread known ≡ false →
-    IsKnown profile s k forms known → slice_get (lines s) k ≡ Some x → Unread profile (stands_in_match x.level (behind [] forms)) x
+    IsKnown profile s k forms known → slice_get (lines s) k ≡ Some x → Unread profile (stands_in_match x.level (following [] forms)) x
     (code_of e) → StartsAt s k p →
     IsUnreadAt profile s (k + 1) e p
 unread_first {profile} {s} {k} forms known x e p is was stands unread starts =
@@ -253,6 +253,6 @@ unread_first {profile} {s} {k} forms known x e p is was stands unread starts =
     }
 
 -- what the lines so far are, nearest first, with one line more
-pub behind_more : (earlier forms : List Line) (l : Line) → behind earlier (forms ++ l ∷ []) ≡ l ∷ behind earlier forms
-behind_more earlier [] l = refl
-behind_more earlier (x ∷ forms) l = behind_more (x ∷ earlier) forms l
+pub following_more : (earlier forms : List Line) (l : Line) → following earlier (forms ++ l ∷ []) ≡ l ∷ following earlier forms
+following_more earlier [] l = refl
+following_more earlier (x ∷ forms) l = following_more (x ∷ earlier) forms l

@@ -82,8 +82,8 @@ no_colon [] us h k = absurd (cc)
 no_colon (Op Semi ∷ rest) us h k = absurd (cc)
 no_colon _ us h k = absurd (cc)
 
--- As the header of a case it has a pattern behind `case`, and its first colon without a place ends the header. As a simple statement it
--- has such a colon behind a target alone.
+-- As the header of a case it has a pattern after `case`, and its first colon without a place ends the header. As a simple statement it
+-- has such a colon after a target alone.
 two_ways : (form : Identifier) (ts us : List Terminal) → Takes [] [] ts → Begun (ts ++ (Op Colon ∷ us)) →
     FirstStatement (case_word form ∷ (ts ++ (Op Colon ∷ us))) → BeginsCaseBracket (case_word form ∷ (ts ++ (Op Colon ∷ us)))
 two_ways form ts us p b q = by_stated q.stated q.rest q.parted q.whole
@@ -104,18 +104,18 @@ two_ways form ts us p b q = by_stated q.stated q.rest q.parted q.whole
         bracketed (subst GoesOn (sym (e ∙ append_assoc vs (Op Colon ∷ ws) rest)) (target_goes k n (Op Colon ∷ (ws ++ rest))))
     by_stated (other_word k) rest h e = not_both _ (ap begins_case (sym e)) (k rest)
 
-guard : {ts : List Terminal} {g : Option Expr} → F.Behind (Word Key.If) Named ts g → Takes [] [] ts
-guard F.none_behind = none
-guard (F.behind p) = neutral (Word Key.If) refl (expression [] p)
+guard : {ts : List Terminal} {g : Option Expr} → F.Following (Word Key.If) Named ts g → Takes [] [] ts
+guard F.none_after = none
+guard (F.following p) = neutral (Word Key.If) refl (expression [] p)
 
-guard_stops : {ts : List Terminal} {g : Option Expr} → F.Behind (Word Key.If) Named ts g →
+guard_stops : {ts : List Terminal} {g : Option Expr} → F.Following (Word Key.If) Named ts g →
     (us : List Terminal) → stops (ts ++ (Op Colon ∷ us)) ≡ true
-guard_stops F.none_behind us = refl
-guard_stops (F.behind p) us = refl
+guard_stops F.none_after us = refl
+guard_stops (F.following p) us = refl
 
 -- the header of a case that has a form elsewhere too
 case_elsewhere : {profile : Profile} {ts us : List Terminal} {p : Pattern} {g : Option Expr} {f : Form} →
-    (form : Identifier) (vs : List Terminal) → DerivesPattern Patterns ts p → F.Behind (Word Key.If) Named us g →
+    (form : Identifier) (vs : List Terminal) → DerivesPattern Patterns ts p → F.Following (Word Key.If) Named us g →
     F.FormAt profile false (case_word form ∷ ((ts ++ us) ++ (Op Colon ∷ vs))) f →
     BeginsCaseBracket (case_word form ∷ ((ts ++ us) ++ (Op Colon ∷ vs)))
 case_elsewhere {ts = ts} {us = us} form vs p g (F.other_line n q) =

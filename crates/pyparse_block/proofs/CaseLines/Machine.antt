@@ -33,7 +33,7 @@ act (Op Semi) = semicolon
 act (Word Key.Lambda) = opens lambda
 act _ = plain
 
--- what stands open behind it, innermost first; nothing is said where it has no place
+-- what stands open after it, innermost first; nothing is said where it has no place
 abbrev pub after : Act → List Open → Option (List Open)
 after (opens o) s = Some (o ∷ s)
 after closes (bracket ∷ s) = Some s

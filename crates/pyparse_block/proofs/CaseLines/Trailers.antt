@@ -1,5 +1,5 @@
 -- What follows the NAME `case`: in a target of more than that name `.`, `[`, or round brackets and more of these; in the header of a case
--- a pattern, behind whose round brackets none of these follows.
+-- a pattern, after whose round brackets none of these follows.
 --
 -- Carries: target_goes, pattern_begun, apart, for Law. On: Machine, Signs, Expressions, Patterns.
 use Rattle.std.proofs.Common.{◌≡◌, ◌⊎◌, inl, inr, refl, sym, ap, ◌∙◌, subst, List, [], ◌∷◌, ◌++◌, Option, Some, None, Bool, true, false}
@@ -157,13 +157,13 @@ stops (Word Key.As ∷ us) = true
 stops (Word Key.If ∷ us) = true
 stops _ = false
 
--- behind an opening bracket, where such follows the closing one
+-- after an opening bracket, where such follows the closing one
 pub record IsClosed (ts : List Terminal) : Type 0 where
   pub inside : List Terminal
-  pub behind : List Terminal
-  pub whole : ts ≡ inside ++ (Op RPar ∷ behind)
+  pub following : List Terminal
+  pub whole : ts ≡ inside ++ (Op RPar ∷ following)
   pub taken : Takes [] [] inside
-  pub stopped : stops behind ≡ true
+  pub stopped : stops following ≡ true
 
 -- a list that begins with a pattern
 abbrev pub Begun : List Terminal → Type 0
@@ -214,15 +214,15 @@ pattern_begun (P.value {ts = ts} x (P.class_name d w)) us k =
     regroup Begun ts (Op Dot ∷ (Ident x ∷ [])) us (dotted_begun d (Op Dot ∷ (Ident x ∷ us)))
 pattern_begun (P.group {ts = ts} p) us k = record {
   inside = ts;
-  behind = us;
+  following = us;
   whole = append_assoc ts (Op RPar ∷ []) us;
   taken = one_pattern [] p;
   stopped = k;
 }
-pattern_begun P.empty_sequence us k = record { inside = []; behind = us; whole = refl; taken = none; stopped = k }
+pattern_begun P.empty_sequence us k = record { inside = []; following = us; whole = refl; taken = none; stopped = k }
 pattern_begun (P.round_sequence {ts = ts} {us = vs} p c) us k = record {
   inside = ts ++ (Op Comma ∷ vs);
-  behind = us;
+  following = us;
   whole = simp append_assoc;
   taken = between (Op Comma) refl (one_pattern [] p) (entries [] c);
   stopped = k;
@@ -244,10 +244,10 @@ never (round p k) h = absurd (cc)
 pub apart : {us : List Terminal} → Trailed us → Begun us → (ws : List Terminal) × (us ≡ Op LSqb ∷ ws)
 apart point b = absurd b
 apart (square {us = us}) b = (us, refl)
-apart (round {ts = ts} {us = us} p k) b = absurd (never (subst Trailed behind k) b.stopped)
+apart (round {ts = ts} {us = us} p k) b = absurd (never (subst Trailed following k) b.stopped)
   where
-    same : Op RPar ∷ us ≡ Op RPar ∷ b.behind
-    same = sym (p.goes (Op RPar ∷ us)) ∙ (ap (left_of []) b.whole ∙ b.taken.goes (Op RPar ∷ b.behind))
+    same : Op RPar ∷ us ≡ Op RPar ∷ b.following
+    same = sym (p.goes (Op RPar ∷ us)) ∙ (ap (left_of []) b.whole ∙ b.taken.goes (Op RPar ∷ b.following))
 
-    behind : us ≡ b.behind
-    behind = cc same
+    following : us ≡ b.following
+    following = cc same

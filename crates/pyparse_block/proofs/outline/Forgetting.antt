@@ -29,7 +29,7 @@ bare_end a = then a (λ ss. Fine tt)
 
 -- ---- What is open.
 
--- what is open behind a header and its block is the same for all blocks
+-- what is open after a header and its block is the same for all blocks
 grown_alike : (g : Group) (h : Header) (body : List Stmt) → group_of (grows g h body).group ≡ group_of (grows g h []).group
 grown_alike g (if_header t) body = refl
 grown_alike Idle (elif_header t) body = refl
@@ -49,7 +49,7 @@ grown_alike g (match_header t) body = refl
 grown_alike Idle (case_header p t) body = refl
 grown_alike _ (case_header p t) body = refl
 
--- what is open behind a header that was met
+-- what is open after a header that was met
 abbrev met : Option PartialBlock → Header → Option bare.GroupKind
 met o h = elim o [ None ↦ None | Some p ↦ Some (group_of (grows p.group h []).group) ]
 
@@ -148,20 +148,20 @@ settle_outlined l done g fresh (w ∷ below) =
 -- ---- A line of the deepest level.
 
 -- what a line makes of the levels, by what is then open
-abbrev behind : bare_shape.Shape → Levels → Option bare.GroupKind → Answer Levels
-behind x s o = elim o [
+abbrev following : bare_shape.Shape → Levels → Option bare.GroupKind → Answer Levels
+following x s o = elim o [
   | None ↦ Faulty MisplacedClause
   | Some g ↦ Fine (cond (opens x) (levels (first x) true (g ∷ s.below)) (levels g false s.below))
 ]
 
 simple_outlined : (s : State) (ss : List Stmt) (g : Group) →
-    outlined (or_misplaced (closes g) (λ more. state ((s.done ++ more) ++ ss) Idle false s.below)) ≡ behind shape.Simple (outline s)
+    outlined (or_misplaced (closes g) (λ more. state ((s.done ++ more) ++ ss) Idle false s.below)) ≡ following shape.Simple (outline s)
     (next shape.Simple (group_of g))
 simple_outlined s ss Idle = refl
 simple_outlined s ss _ = refl
 
 decorator_outlined : (s : State) (e : Expr) (g : Group) →
-    outlined (or_misplaced (decorated g e) (λ p. state (s.done ++ p.done) p.group false s.below)) ≡ behind shape.Decorator (outline s)
+    outlined (or_misplaced (decorated g e) (λ p. state (s.done ++ p.done) p.group false s.below)) ≡ following shape.Decorator (outline s)
     (next shape.Decorator (group_of g))
 decorator_outlined s e (Marked es) = refl
 decorator_outlined s e Idle = refl
@@ -172,7 +172,7 @@ first_alike (match_header e) = refl
 first_alike _ = refl
 
 header_outlined : (s : State) (h : Header) (suite : Option (List Stmt)) (o : Option PartialBlock) →
-    outlined (or_misplaced o (place_header s h suite)) ≡ behind (shape_of (header_form h suite)) (outline s) (met o h)
+    outlined (or_misplaced o (place_header s h suite)) ≡ following (shape_of (header_form h suite)) (outline s) (met o h)
 header_outlined s h None None = refl
 header_outlined s h (Some ss) None = refl
 header_outlined s h None (Some p) =
@@ -183,9 +183,9 @@ place_outlined : (s : State) (f : Form) → outlined (reading.place s f) ≡ pla
 place_outlined s (simple_form ss) = simple_outlined s ss s.group
 place_outlined s (decorator_form e) = decorator_outlined s e s.group
 place_outlined s (header_form h None) = header_outlined s h None (meets s.group h)
-    ∙ ap (behind (shape_of (header_form h None)) (outline s)) (met_is s.group h)
+    ∙ ap (following (shape_of (header_form h None)) (outline s)) (met_is s.group h)
 place_outlined s (header_form h (Some ss)) = header_outlined s h (Some ss) (meets s.group h)
-    ∙ ap (behind (shape_of (header_form h (Some ss))) (outline s)) (met_is s.group h)
+    ∙ ap (following (shape_of (header_form h (Some ss))) (outline s)) (met_is s.group h)
 
 -- ---- Lines and their end.
 

@@ -22,7 +22,7 @@ reverse-push xs x = reverse-append xs (x ∷ [])
 
 -- ---- Levels that end.
 
--- what is left behind a level that ends
+-- what is left after a level that ends
 abbrev pub left : ℕ → List GroupKind → Option GroupKind → Answer Levels
 left l below o = elim o [ None ↦ Faulty MisplacedClause | Some h ↦ settle_in l h false below ]
 

@@ -113,4 +113,4 @@ end_read xs o p k t =
     (e.0, block_found xs r.state e.0 p r.is e.1)
 
 -- what an outline says of its lines
-pub ruleset following = (follows_none, follows_on, deep_told, line_blamed, end_blamed, end_read)
+pub ruleset outline_follows = (follows_none, follows_on, deep_told, line_blamed, end_blamed, end_read)

@@ -3,13 +3,13 @@ use Rattle.std.specs.Prelude.{false, cond, List, [], ◌∷◌, Option, Some, No
 use Rattle.pygrammar.specs.Blocks.{ExpectedIndent, MisplacedClause}
 use Rattle.pygrammar.specs.Reading.{Answer, Fine, Faulty, PartialBlock, Waiting, State, state, above}
 
--- what is kept behind a level that ended, by what the level below it has now
-abbrev pub behind : List Waiting → Option PartialBlock → Answer State
-behind below made = elim made [ None ↦ Faulty MisplacedClause | Some p ↦ Fine (state p.done p.group false below) ]
+-- what is kept after a level that ended, by what the level below it has now
+abbrev pub following : List Waiting → Option PartialBlock → Answer State
+following below made = elim made [ None ↦ Faulty MisplacedClause | Some p ↦ Fine (state p.done p.group false below) ]
 
 -- the deepest level comes to its end, with this one below it
 abbrev pub popped : State → Waiting → List Waiting → Answer State
-popped s w below = cond s.fresh (Faulty ExpectedIndent) (behind below (above w s.done s.group))
+popped s w below = cond s.fresh (Faulty ExpectedIndent) (following below (above w s.done s.group))
 
 -- the deepest level comes to its end
 abbrev pub ended : State → Answer State

@@ -19,7 +19,7 @@ is_whole Trial = false
 is_whole Matching = false
 is_whole _ = true
 
--- what is open behind another statement that begins here, if it may
+-- what is open after another statement that begins here, if it may
 abbrev pub ended : GroupKind → GroupKind → Option GroupKind
 ended g next = cond (is_whole g) (Some next) None
 
@@ -28,12 +28,12 @@ abbrev pub first : Shape → GroupKind
 first (shape.Opening clause.Match) = Matching
 first _ = Idle
 
--- what the level below has open where a level ends, if it may: what was awaited there, and behind the cases of a `match` nothing
+-- what the level below has open where a level ends, if it may: what was awaited there, and after the cases of a `match` nothing
 abbrev pub above : GroupKind → GroupKind → Option GroupKind
 above Matching awaited = Some Idle
 above g awaited = ended g awaited
 
--- what is open behind a clause and its block, if the clause may stand here
+-- what is open after a clause and its block, if the clause may stand here
 abbrev pub goes_on : Clause → GroupKind → Option GroupKind
 goes_on clause.If g = ended g Choice
 goes_on clause.Elif Choice = Some Choice
@@ -58,7 +58,7 @@ goes_on clause.Match g = ended g Idle
 goes_on clause.Case Matching = Some Matching
 goes_on clause.Case _ = None
 
--- and behind a line
+-- and after a line
 abbrev pub next : Shape → GroupKind → Option GroupKind
 next shape.Simple g = ended g Idle
 next shape.Decorator Marked = Some Marked

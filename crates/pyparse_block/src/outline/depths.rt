@@ -80,7 +80,7 @@ fn drop_from(lasts: &mut Vec<Last>, level: usize)
 }
 
 /// The `elif`s of the `if` that a line of this level and shape belongs to, up to it.
-fn arms_behind(lasts: &[Last], level: usize, shape: Shape) -> u32
+fn arms_after(lasts: &[Last], level: usize, shape: Shape) -> u32
     ensures { result ≡ arms_top shape level (lasts_of lasts.now) }
 {
     let Some(last) = lasts.last() else {
@@ -107,7 +107,7 @@ fn own(shape: Shape) -> u16
 }
 
 /// How many statements stand round a line of the next level.
-fn round_behind(lasts: &[Last]) -> u32
+fn round_after(lasts: &[Last]) -> u32
     ensures { result ≡ round_top (lasts_of lasts.now) }
 {
     match lasts.last() {
@@ -139,9 +139,9 @@ impl Depths {
             (Counts level shape (lasts_of self.old.lasts.items) (lasts_of self.new.lasts.items)) }
     {
         drop_deeper(&mut self.lasts, level);
-        let arms = arms_behind(&self.lasts, level, shape);
+        let arms = arms_after(&self.lasts, level, shape);
         drop_from(&mut self.lasts, level);
-        let round = round_behind(&self.lasts);
+        let round = round_after(&self.lasts);
         let last = Last {
             level,
             round: capped(round),

@@ -30,7 +30,7 @@ impl Outline {
     ghost use Rattle.pyparse_block.specs.Outlines.{Follows, lasts_of, levels_of};
 
     /// Before the first line. It takes no memory.
-    #[tactic(auto, using(crate::proofs::outline::OutlineLemmas::following))]
+    #[tactic(auto, using(crate::proofs::outline::OutlineLemmas::outline_follows))]
     pub fn new(alloc: Global) -> Outline
         ensures { Follows [] result }
     {
@@ -48,7 +48,7 @@ impl Outline {
     ///
     /// [`BlockStop::Faulty`] where the line is the first faulty one, by its fault, and
     /// [`BlockStop::Memory`].
-    #[tactic(auto, using(crate::proofs::outline::OutlineLemmas::following))]
+    #[tactic(auto, using(crate::proofs::outline::OutlineLemmas::outline_follows))]
     #[inline(always)]
     pub fn step(&mut self, alloc: Global, level: usize, form: &Form) -> Result<bool, BlockStop>
         ensures ok { (xs : List Line) → Follows xs self.old
@@ -90,7 +90,7 @@ impl Outline {
     ///
     /// [`BlockStop::Faulty`] where the end of the lines is faulty, by its fault; it takes no
     /// memory.
-    #[tactic(auto, using(crate::proofs::outline::OutlineLemmas::following))]
+    #[tactic(auto, using(crate::proofs::outline::OutlineLemmas::outline_follows))]
     pub fn finish(&self) -> Result<(), BlockStop>
         ensures ok { (xs : List Line) → are_proper xs ≡ true → Follows xs self.now
             → OnOk result ((ss : List Stmt) × Block 0 xs ss) }

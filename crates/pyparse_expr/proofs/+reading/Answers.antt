@@ -21,10 +21,10 @@ use Rattle.pyparse_expr.proofs.Lists.ListSteps.{group_failed, group_open, group_
 use Rattle.pyparse_expr.proofs.Lists.SquareSteps.{square_empty, square_none, square_error, square_star, square_comp, square_failed}
 use Rattle.pyparse_expr.proofs.Lists.SquareSteps.{square_open, square_made}
 use Rattle.pyparse_expr.specs.Inner.Arguments.{state_of, start, step, entry_of}
-use Rattle.pyparse_expr.proofs.Calls.ArgumentSteps.{more_end, more_error, more_last, more_turn, call_behind, reaches_start}
+use Rattle.pyparse_expr.proofs.Calls.ArgumentSteps.{more_end, more_error, more_last, more_turn, call_after, reaches_start}
 use Rattle.pyparse_expr.proofs.FormalParameters.ParameterParts.{suffix_failed, suffix_found, by_name, by_star, by_stars, parameter_earlier}
 use Rattle.pyparse_expr.proofs.FormalParameters.ParameterSteps.{parameters_start, parameters_end, parameters_error, parameters_last}
-use Rattle.pyparse_expr.proofs.FormalParameters.ParameterSteps.{parameters_more, lambda_failed, lambda_behind, lambda_unclosed}
+use Rattle.pyparse_expr.proofs.FormalParameters.ParameterSteps.{parameters_more, lambda_failed, lambda_after, lambda_unclosed}
 use Rattle.pyparse_expr.proofs.FormalParameters.ParameterSteps.{lambda_body_failed, lambda_ended, signature_height}
 use Rattle.pyparse_expr.proofs.Lists.PairSteps.{pairs_start, pairs_end, pairs_stop, pairs_error, pairs_more}
 use Rattle.pyparse_expr.proofs.Lists.BraceSteps.{dict_failed, dict_open, dict_made, set_made}
@@ -54,7 +54,7 @@ use Rattle.pyparse_expr.proofs.Recorders.Operations.{climbs_low, climb_placed, c
 use Rattle.pyparse_expr.proofs.Recorders.Operations.{awaits_placed, signed_placed, binary_made, binary_stood, power_stood}
 use Rattle.pyparse_expr.proofs.Recorders.Chains.{links_read, links_placed, chain_placed, here_sign, past_signs, sides_read, compare_placed}
 use Rattle.pyparse_expr.proofs.Recorders.Tails.{subscript_placed}
-use Rattle.pyparse_expr.proofs.Recorders.Levels.{yields_made, stars_tupled, item_starred, elem_starred, named_placed, moved_behind}
+use Rattle.pyparse_expr.proofs.Recorders.Levels.{yields_made, stars_tupled, item_starred, elem_starred, named_placed, moved_after}
 use Rattle.pyparse_expr.proofs.Recorders.Levels.{if_else_placed}
 use Rattle.pyparse_expr.proofs.Recorders.Atoms.{leaf_placed, no_tuple_placed, group_placed, yield_group_placed, group_tuple_placed}
 use Rattle.pyparse_expr.proofs.Recorders.Atoms.{generator_placed}
@@ -486,7 +486,7 @@ pub climbing::operation-returns-in-Left-clause-placed : goal.climbing::operation
 climbing::operation-returns-in-Left-clause-placed g t c = λ k ps b p. binary_stood g.R.Recorder.after _ _ c.args.tokens.now k c.args.at
     c.args.left c.in-Left.level
     c.below.result c.in-Left.o ps c.binary.result c.below.ensures
-    (subst (λ o. Some (infix_value o) ≡ first_is precedence.behind (seen c.args.tokens.now c.args.left.next))
+    (subst (λ o. Some (infix_value o) ≡ first_is precedence.following (seen c.args.tokens.now c.args.left.next))
     c.in-Left.is c.requires.stands)
     (subst (λ o. k ≤ infix_rank (infix_value o)) c.in-Left.is b) p c.binary.ensures.placed
 
@@ -494,7 +494,7 @@ pub climbing::operation-returns-in-Raise-clause-placed : goal.climbing::operatio
 climbing::operation-returns-in-Raise-clause-placed g t c = λ k ps b p. power_stood g.R.Recorder.after _ _ c.args.tokens.now k
     c.args.at c.args.left ps
     c.binary-in-Raise.result
-    (subst (λ o. Some (infix_value o) ≡ first_is precedence.behind (seen c.args.tokens.now c.args.left.next))
+    (subst (λ o. Some (infix_value o) ≡ first_is precedence.following (seen c.args.tokens.now c.args.left.next))
     c.in-Raise.is c.requires.stands)
     (subst (λ o. k ≤ infix_rank (infix_value o)) c.in-Raise.is b) p c.binary-in-Raise.ensures.placed
 
@@ -663,7 +663,7 @@ pub levels::if_else_step-returns-clause-placed : goal.levels::if_else_step-retur
 levels::if_else_step-returns-clause-placed g t c = λ s w ps r n p.
     let test = c.in_ok-test.ensures.placed in
     let orelse = c.in_ok-orelse.ensures.placed in
-    let moved = moved_behind g.R.Recorder.after g.R.Recorder.beside g.R.Recorder.recorded_count g.R.Recorder.aside_count
+    let moved = moved_after g.R.Recorder.after g.R.Recorder.beside g.R.Recorder.recorded_count g.R.Recorder.aside_count
     g.met.R.Recorder.apart g.met.R.Recorder.aside_still r n
     c.aside-kept.ensures c.in_ok-set_aside.ensures test.2 c.in_ok-take_back.ensures in
     if_else_placed g.R.Recorder.after _ _ c.args.tokens.now c.args.at c.args.depth.room c.in_ok-test.test c.args.body c.in_ok-orelse.orelse
@@ -1414,7 +1414,7 @@ arguments::generator_call-returns-clause-placed g t c = λ l i ps p es o w d.
 
 pub arguments::call_step-returns-clause-answered : goal.arguments::call_step-returns-clause-answered
 arguments::call_step-returns-clause-answered g t c =
-    call_behind c.args.tokens.now c.args.depth (tree_of c.args.func.expr.value) (c.args.func.next + 1)
+    call_after c.args.tokens.now c.args.depth (tree_of c.args.func.expr.value) (c.args.func.next + 1)
     c.kind_at-kind.result c.in_ok-e.e c.none_at-none.result c.in_ok-first.first c.call_from.result c.if-not-begins_argument.ensures.is
     c.kind_at-kind.ensures c.in_ok-e.ensures.answered c.if-starts_comp.ensures.is c.none_at-none.ensures.state c.in_ok-first.ensures.state
     c.in_ok-first.ensures.next c.call_from.ensures.answered
@@ -1645,7 +1645,7 @@ signatures::lambda_step-lambda_body-requires g t c =
     λ κs l. (omega arith, (l, (c.in_ok-signature.ensures.answered.within, (c.requires.open, h))))
 
 pub signatures::lambda_step-returns-clause-answered : goal.signatures::lambda_step-returns-clause-answered
-signatures::lambda_step-returns-clause-answered g t c = lambda_behind c.args.tokens.now c.args.depth c.args.at
+signatures::lambda_step-returns-clause-answered g t c = lambda_after c.args.tokens.now c.args.depth c.args.at
     c.in_ok-signature.signature c.in_ok-signature.ensures.answered c.lambda_body.result c.lambda_body.ensures.answered
 
 pub signatures::lambda_step-returns-clause-placed : goal.signatures::lambda_step-returns-clause-placed

@@ -373,7 +373,7 @@ invariant-strings::more_literals-more g l = record {
   is : (acc : List StringPart) → state_of l.fn.before ≡ gathered l.unicode acc
       → Literals l.tokens l.depth l.unicode (literals_loop (inner_reads l.depth) l.unicode (length (seen l.tokens l.fn.before.next)) acc
       (seen l.tokens l.fn.before.next)) l.values;
-  placed : (whole : Stretch) → Alike g.R.Recorder.after (stretch l.row.first l.row.behind) whole
+  placed : (whole : Stretch) → Alike g.R.Recorder.after (stretch l.row.first l.row.following) whole
       → PartsPlaced g.R.Recorder.after (PlacedLiterals l.unicode whole) l.tokens l.unicode whole l.fn.before l.values
       l.initial.recorder l.recorder;
 }
@@ -387,7 +387,7 @@ invariant-strings::read_parts-parts g l = record {
   within : l.values.next ≤ length l.tokens;
   is : (most : ℕ) (acc : List StringPart) → length (seen l.tokens l.fn.before.next) ≤ most → state_of l.fn.before ≡ gathered l.unicode acc
       → Parts l.tokens l.depth l.unicode (parts_loop (inner_reads l.depth) l.unicode most acc (seen l.tokens l.fn.before.next)) l.values;
-  placed : (whole : Stretch) → Alike g.R.Recorder.after (stretch l.row.first l.row.behind) whole
+  placed : (whole : Stretch) → Alike g.R.Recorder.after (stretch l.row.first l.row.following) whole
       → PartsPlaced g.R.Recorder.after (PlacedFormatted l.unicode whole) l.tokens l.unicode whole l.fn.before l.values
       l.initial.recorder l.recorder;
 }

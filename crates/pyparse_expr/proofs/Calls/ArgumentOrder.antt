@@ -1,4 +1,4 @@
--- Arguments that are read one behind the other are those of the whole list,
+-- Arguments that are read one after the other are those of the whole list,
 -- and in order where that is.
 --
 -- Carries: call_step, and what is read by arguments_at. On: Arguments.
@@ -41,66 +41,66 @@ unfolding keywords_before
 keywords_snoc [] k r = refl
 keywords_snoc (x ∷ ks) k r = ap (λ z. a_keyword x.arg x.value z) (keywords_snoc ks k r)
 
--- behind some that were read
-args_behind : (k d w : Bool) (xs : List Expr) (ks : List Keyword) (es : List Entry)
+-- after some that were read
+args_after : (k d w : Bool) (xs : List Expr) (ks : List Keyword) (es : List Entry)
     → exprs_before xs (positional es) ≡ exprs (args_in (steps (state k d w xs ks) es))
-args_behind k d w xs ks [] = exprs_all xs
-args_behind k d w xs ks (Single e ∷ es) = exprs_snoc xs e (positional es) ∙ args_behind _ _ _ (xs ++ (e ∷ [])) ks es
-args_behind k d w xs ks (Spread e ∷ es) = exprs_snoc xs (Trees.Starred e Load) (positional es)
-    ∙ args_behind _ _ _ (xs ++ (Trees.Starred e Load ∷ [])) ks es
-args_behind k d w xs ks (Keyed x e ∷ es) = args_behind true d w xs (ks ++ (record { arg = Some x; value = e } ∷ [])) es
-args_behind k d w xs ks (Doubled e ∷ es) = args_behind true true w xs (ks ++ (record { arg = None; value = e } ∷ [])) es
-args_behind k d w xs ks (_ ∷ es) = args_behind k d true xs ks es
+args_after k d w xs ks [] = exprs_all xs
+args_after k d w xs ks (Single e ∷ es) = exprs_snoc xs e (positional es) ∙ args_after _ _ _ (xs ++ (e ∷ [])) ks es
+args_after k d w xs ks (Spread e ∷ es) = exprs_snoc xs (Trees.Starred e Load) (positional es)
+    ∙ args_after _ _ _ (xs ++ (Trees.Starred e Load ∷ [])) ks es
+args_after k d w xs ks (Keyed x e ∷ es) = args_after true d w xs (ks ++ (record { arg = Some x; value = e } ∷ [])) es
+args_after k d w xs ks (Doubled e ∷ es) = args_after true true w xs (ks ++ (record { arg = None; value = e } ∷ [])) es
+args_after k d w xs ks (_ ∷ es) = args_after k d true xs ks es
 
-keywords_behind : (k d w : Bool) (xs : List Expr) (ks : List Keyword) (es : List Entry)
+keywords_after : (k d w : Bool) (xs : List Expr) (ks : List Keyword) (es : List Entry)
     → keywords_before ks (rule.keywords es) ≡ Trees.keywords (keywords_in (steps (state k d w xs ks) es))
-keywords_behind k d w xs ks [] = keywords_all ks
-keywords_behind k d w xs ks (Single e ∷ es) = keywords_behind _ _ _ (xs ++ (e ∷ [])) ks es
-keywords_behind k d w xs ks (Spread e ∷ es) = keywords_behind _ _ _ (xs ++ (Trees.Starred e Load ∷ [])) ks es
-keywords_behind k d w xs ks (Keyed x e ∷ es) = keywords_snoc ks (record { arg = Some x; value = e }) (rule.keywords es)
-    ∙ keywords_behind true d w xs (ks ++ (record { arg = Some x; value = e } ∷ [])) es
-keywords_behind k d w xs ks (Doubled e ∷ es) = keywords_snoc ks (record { arg = None; value = e }) (rule.keywords es)
-    ∙ keywords_behind true true w xs (ks ++ (record { arg = None; value = e } ∷ [])) es
-keywords_behind k d w xs ks (_ ∷ es) = keywords_behind k d true xs ks es
+keywords_after k d w xs ks [] = keywords_all ks
+keywords_after k d w xs ks (Single e ∷ es) = keywords_after _ _ _ (xs ++ (e ∷ [])) ks es
+keywords_after k d w xs ks (Spread e ∷ es) = keywords_after _ _ _ (xs ++ (Trees.Starred e Load ∷ [])) ks es
+keywords_after k d w xs ks (Keyed x e ∷ es) = keywords_snoc ks (record { arg = Some x; value = e }) (rule.keywords es)
+    ∙ keywords_after true d w xs (ks ++ (record { arg = Some x; value = e } ∷ [])) es
+keywords_after k d w xs ks (Doubled e ∷ es) = keywords_snoc ks (record { arg = None; value = e }) (rule.keywords es)
+    ∙ keywords_after true true w xs (ks ++ (record { arg = None; value = e } ∷ [])) es
+keywords_after k d w xs ks (_ ∷ es) = keywords_after k d true xs ks es
 
-wrong_behind : (k d : Bool) (xs : List Expr) (ks : List Keyword) (es : List Entry) → wrong_in (steps (state k d true xs ks) es) ≡ true
-wrong_behind k d xs ks [] = refl
-wrong_behind k d xs ks (Single e ∷ es) = wrong_behind k d (xs ++ (e ∷ [])) ks es
-wrong_behind k d xs ks (Spread e ∷ es) = wrong_behind k d (xs ++ (Trees.Starred e Load ∷ [])) ks es
-wrong_behind k d xs ks (Keyed x e ∷ es) = wrong_behind true d xs (ks ++ (record { arg = Some x; value = e } ∷ [])) es
-wrong_behind k d xs ks (Doubled e ∷ es) = wrong_behind true true xs (ks ++ (record { arg = None; value = e } ∷ [])) es
-wrong_behind k d xs ks (_ ∷ es) = wrong_behind k d xs ks es
+wrong_after : (k d : Bool) (xs : List Expr) (ks : List Keyword) (es : List Entry) → wrong_in (steps (state k d true xs ks) es) ≡ true
+wrong_after k d xs ks [] = refl
+wrong_after k d xs ks (Single e ∷ es) = wrong_after k d (xs ++ (e ∷ [])) ks es
+wrong_after k d xs ks (Spread e ∷ es) = wrong_after k d (xs ++ (Trees.Starred e Load ∷ [])) ks es
+wrong_after k d xs ks (Keyed x e ∷ es) = wrong_after true d xs (ks ++ (record { arg = Some x; value = e } ∷ [])) es
+wrong_after k d xs ks (Doubled e ∷ es) = wrong_after true true xs (ks ++ (record { arg = None; value = e } ∷ [])) es
+wrong_after k d xs ks (_ ∷ es) = wrong_after k d xs ks es
 
 spoilt : (k d : Bool) (xs : List Expr) (ks : List Keyword) (es : List Entry) → false ≡ not (wrong_in (steps (state k d true xs ks) es))
-spoilt k d xs ks es = sym (ap (λ w. not w) (wrong_behind k d xs ks es))
+spoilt k d xs ks es = sym (ap (λ w. not w) (wrong_after k d xs ks es))
 
-order_behind : (k d : Bool) (xs : List Expr) (ks : List Keyword) (es : List Entry)
+order_after : (k d : Bool) (xs : List Expr) (ks : List Keyword) (es : List Entry)
     → in_order k d es ≡ not (wrong_in (steps (state k d false xs ks) es))
-order_behind k d xs ks [] = refl
-order_behind false d xs ks (Single e ∷ es) = order_behind false d (xs ++ (e ∷ [])) ks es
-order_behind true true xs ks (Single e ∷ es) = spoilt true true (xs ++ (e ∷ [])) ks es
-order_behind true false xs ks (Single e ∷ es) = spoilt true false (xs ++ (e ∷ [])) ks es
-order_behind k false xs ks (Spread e ∷ es) = order_behind k false (xs ++ (Trees.Starred e Load ∷ [])) ks es
-order_behind true true xs ks (Spread e ∷ es) = spoilt true true (xs ++ (Trees.Starred e Load ∷ [])) ks es
-order_behind false true xs ks (Spread e ∷ es) = spoilt false true (xs ++ (Trees.Starred e Load ∷ [])) ks es
-order_behind k d xs ks (Keyed x e ∷ es) = order_behind true d xs (ks ++ (record { arg = Some x; value = e } ∷ [])) es
-order_behind k d xs ks (Doubled e ∷ es) = order_behind true true xs (ks ++ (record { arg = None; value = e } ∷ [])) es
-order_behind true true xs ks (_ ∷ es) = spoilt true true xs ks es
-order_behind true false xs ks (_ ∷ es) = spoilt true false xs ks es
-order_behind false true xs ks (_ ∷ es) = spoilt false true xs ks es
-order_behind false false xs ks (_ ∷ es) = spoilt false false xs ks es
+order_after k d xs ks [] = refl
+order_after false d xs ks (Single e ∷ es) = order_after false d (xs ++ (e ∷ [])) ks es
+order_after true true xs ks (Single e ∷ es) = spoilt true true (xs ++ (e ∷ [])) ks es
+order_after true false xs ks (Single e ∷ es) = spoilt true false (xs ++ (e ∷ [])) ks es
+order_after k false xs ks (Spread e ∷ es) = order_after k false (xs ++ (Trees.Starred e Load ∷ [])) ks es
+order_after true true xs ks (Spread e ∷ es) = spoilt true true (xs ++ (Trees.Starred e Load ∷ [])) ks es
+order_after false true xs ks (Spread e ∷ es) = spoilt false true (xs ++ (Trees.Starred e Load ∷ [])) ks es
+order_after k d xs ks (Keyed x e ∷ es) = order_after true d xs (ks ++ (record { arg = Some x; value = e } ∷ [])) es
+order_after k d xs ks (Doubled e ∷ es) = order_after true true xs (ks ++ (record { arg = None; value = e } ∷ [])) es
+order_after true true xs ks (_ ∷ es) = spoilt true true xs ks es
+order_after true false xs ks (_ ∷ es) = spoilt true false xs ks es
+order_after false true xs ks (_ ∷ es) = spoilt false true xs ks es
+order_after false false xs ks (_ ∷ es) = spoilt false false xs ks es
 
 -- from the first one on
 pub order_steps : (es : List Entry) → in_order false false es ≡ not (wrong_in (steps start es))
-order_steps es = order_behind false false [] [] es
+order_steps es = order_after false false [] [] es
 
 pub args_steps : (es : List Entry) → positional es ≡ exprs (args_in (steps start es))
 unfolding exprs_before
-args_steps es = args_behind false false false [] [] es
+args_steps es = args_after false false false [] [] es
 
 pub keywords_steps : (es : List Entry) → rule.keywords es ≡ Trees.keywords (keywords_in (steps start es))
 unfolding keywords_before
-keywords_steps es = keywords_behind false false false [] [] es
+keywords_steps es = keywords_after false false false [] [] es
 
 outcome_is : (f : Expr) (s : State)
     → cond (not (wrong_in s)) (Some (Trees.Call f (exprs (args_in s)) (Trees.keywords (keywords_in s)))) None ≡ outcome f s

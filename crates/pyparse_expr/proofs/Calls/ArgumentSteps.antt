@@ -1,4 +1,4 @@
--- The arguments of a call, one behind the other.
+-- The arguments of a call, one after the other.
 --
 -- Carries: call_step, more_arguments. On: Reading, ArgumentOrder.
 use Rattle.std.proofs.Common.{◌≡◌, refl, sym, ap, subst, ◌∙◌, arith, ℕ, zero, suc, ◌+◌, ◌-◌, ◌≤◌, ◌<◌, max, List, [], ◌∷◌, ◌++◌, length}
@@ -243,12 +243,12 @@ finish_is : (d : Depth) (f : Expr) (es : List Entry) (r : List Terminal)
     → called_with (inner_reads d) f es r ≡ finished f (steps start es) r
 finish_is d f es r = ap (λ o. on_first (is_op RPar) r (λ _ r1. made o r1) NoForm) (called_steps f es)
 
-abbrev behind : Depth → Expr → Entry → List Terminal → Answer Expr
-behind d f a r = and_then (others_of (inner_reads d) Argument a r) (λ es r2. called_with (inner_reads d) f es r2)
+abbrev following : Depth → Expr → Entry → List Terminal → Answer Expr
+following d f a r = and_then (others_of (inner_reads d) Argument a r) (λ es r2. called_with (inner_reads d) f es r2)
 
-behind_is : (d : Depth) (f : Expr) (a : Entry) (r : List Terminal) → behind d f a r ≡ called_from d f (step start a) r
-behind_is d f a [] = refl
-behind_is d f a (t ∷ r) = go (is_op Comma t)
+after_is : (d : Depth) (f : Expr) (a : Entry) (r : List Terminal) → following d f a r ≡ called_from d f (step start a) r
+after_is d f a [] = refl
+after_is d f a (t ∷ r) = go (is_op Comma t)
   where
     one : (x : Answer (List Entry)) → and_then (and_then x (λ es s. Found (a ∷ es) s)) (λ es r2. called_with (inner_reads d) f es r2) ≡
         and_then x (λ es r1. finished f (steps (step start a) es) r1)
@@ -266,7 +266,7 @@ behind_is d f a (t ∷ r) = go (is_op Comma t)
 -- from the bracket on
 module _ (ts : List given.Terminal) (d : Depth) (f : Expr) (at : ℕ) where
   abbrev first : Entry → List Terminal → Answer Expr
-  first a r1 = cond (starts_comp r1) (generator_call (inner_reads d) f a r1) (behind d f a r1)
+  first a r1 = cond (starts_comp r1) (generator_call (inner_reads d) f a r1) (following d f a r1)
 
   some_is : true ≡ starts Argument (seen ts at) → call_step (inner_reads d) f (seen ts at) ≡ and_then
       (read_argument (inner_reads d) (seen ts at)) (λ a r1. first a r1)
@@ -280,16 +280,16 @@ module _ (ts : List given.Terminal) (d : Depth) (f : Expr) (at : ℕ) where
       → call_step (inner_reads d) f (seen ts at) ≡ first (entry_of k (tree_of e.expr.value)) (seen ts e.next)
   first_is_read k e n h r = some_is n ∙ ap (λ y. and_then y (λ a r1. first a r1)) (kind_found ts d k at (d.room - 1) (at + 1) e h r)
 
-  pub call_behind : (k : ArgumentForm) (e : Read) (a : Actual) (b : Actual) (z : Result Read Stop) → true ≡ starts Argument (seen ts at)
+  pub call_after : (k : ArgumentForm) (e : Read) (a : Actual) (b : Actual) (z : Result Read Stop) → true ≡ starts Argument (seen ts at)
       → IsKindAt k ts at → IsRead k e → false ≡ starts_comp (seen ts e.next) → state_of a ≡ start
       → state_of b ≡ step (state_of a) (entry_of k (tree_of e.expr.value)) → b.next ≡ e.next
       → Answered ts d.room b.next (cap d.room (called_from d f (state_of b) (seen ts b.next))) z
       → Answered ts d.room at (cap d.room (call_step (inner_reads d) f (seen ts at))) z
-  call_behind k e a b z n h r c p g q w =
+  call_after k e a b z n h r c p g q w =
       let i = first_is_read k e n h r
       ∙ ap (λ v. cond v (generator_call (inner_reads d) f (entry_of k (tree_of e.expr.value)) (seen ts e.next))
-      (behind d f (entry_of k (tree_of e.expr.value)) (seen ts e.next))) (sym c)
-      ∙ behind_is d f (entry_of k (tree_of e.expr.value)) (seen ts e.next) in
+      (following d f (entry_of k (tree_of e.expr.value)) (seen ts e.next))) (sym c)
+      ∙ after_is d f (entry_of k (tree_of e.expr.value)) (seen ts e.next) in
       let u = subst (λ (y : State). Answered ts d.room b.next (cap d.room (called_from d f y (seen ts b.next))) z) (g
       ∙ ap (λ y. step y (entry_of k (tree_of e.expr.value))) p) w in
       let v = subst (λ (y : ℕ). Answered ts d.room y

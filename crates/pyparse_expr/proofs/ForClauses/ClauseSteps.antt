@@ -125,7 +125,7 @@ module _ (ts : List given.Terminal) (d : Depth) (x : Answer (List Comprehension)
           (λ g r3. comps_loop (inner_reads d) m (map comprehension_of r.generators.items ++ (g ∷ [])) r3)) NoForm)
           (Found (map comprehension_of r.generators.items) (seen ts r.next)) a
 
--- a clause begins at a place, and its target behind that
+-- a clause begins at a place, and its target after that
 pub record Begins (ts : List given.Terminal) (n : ℕ) (b : Bool) (at : ℕ) : Type 0 where
   pub within : n < length ts
   pub ahead : n + 1 ≤ at
@@ -188,7 +188,7 @@ module _ (ts : List given.Terminal) (d : Depth) (x : Answer (List Comprehension)
               ∙ ap (λ n. comps_loop (inner_reads d) m (map comprehension_of new.generators.items) (seen ts n)) (sym k);
         }
 
-  -- an `async` with no `for` behind it
+  -- an `async` with no `for` after it
   clauses_cut : Stands (Word Key.Async) ts r.next → None ≡ first_is (is_word Key.For) (seen ts (r.next + 1)) → x ≡ NoForm
   clauses_cut s n = go c.most c.enough c.is
     where

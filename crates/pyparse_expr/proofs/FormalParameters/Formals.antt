@@ -1,4 +1,4 @@
--- Parameters that are read one behind the other are arranged as the whole list is.
+-- Parameters that are read one after the other are arranged as the whole list is.
 --
 -- Carries: lambda_step. On: Parameters.
 use Rattle.std.proofs.Common.{◌≡◌, refl, sym, ap, ◌∙◌, List, [], ◌∷◌, ◌++◌, Option, Some, None, Bool, true, false, cond, option_map}
@@ -41,7 +41,7 @@ keyword_before g h b ps qs v ks kds k ds a d (arguments ps2 qs2 v2 ks2 kds2 k2 d
     sym (λ i. arguments (args_before ps ps2) (args_before qs qs2) (arg_or v v2) (args_snoc ks a ks2 i) (optionals_snoc kds d kds2 i)
     (arg_or k k2) (exprs_before ds ds2))
 
--- behind a star
+-- after a star
 star_steps : (b : Bool) (ps qs : List Arg) (v : Option Arg) (ks : List Arg) (kds : List OptionalExpr) (ds : List Expr) (es : List Entry)
     → option_map (before (state stage.Starred b ps qs v ks kds None ds)) (after_star es) ≡ outcome
     (steps (state stage.Starred b ps qs v ks kds None ds) es)
@@ -53,7 +53,7 @@ star_steps b ps qs v ks kds ds (Collected a ∷ []) = refl
 star_steps b ps qs v ks kds ds (Collected a ∷ (e ∷ es)) = sym (wrong_steps b ps qs v ks kds (Some a) ds es)
 star_steps b ps qs v ks kds ds (_ ∷ es) = sym (wrong_steps b ps qs v ks kds None ds es)
 
--- behind a lone star
+-- after a lone star
 lone_steps : (b : Bool) (ps qs : List Arg) (ds : List Expr) (es : List Entry)
     → option_map (before (state stage.Closed b ps qs None [] [] None ds)) (at_star (Bare ∷ es)) ≡ outcome
     (steps (state stage.Lone b ps qs None [] [] None ds) es)
@@ -138,25 +138,25 @@ slash_none false (Collected a ∷ (e ∷ es)) h = refl
 slash_none true (_ ∷ es) h = refl
 slash_none false (_ ∷ es) h = refl
 
--- what may stand behind one that a slash follows somewhere
-abbrev behind : Bool → List Entry → Option Arguments
-behind b (Slashed ∷ es) = plain_ones b es
-behind b es = before_slash b es
+-- what may stand after one that a slash follows somewhere
+abbrev following : Bool → List Entry → Option Arguments
+following b (Slashed ∷ es) = plain_ones b es
+following b es = before_slash b es
 
-absent_behind : (a : Arg) (es : List Entry) → before_slash false (Plain a absent ∷ es) ≡ option_map
-    (add_before_slash a absent) (behind false es)
-absent_behind a [] = refl
-absent_behind a (Slashed ∷ es) = refl
-absent_behind a (_ ∷ es) = refl
+absent_after : (a : Arg) (es : List Entry) → before_slash false (Plain a absent ∷ es) ≡ option_map
+    (add_before_slash a absent) (following false es)
+absent_after a [] = refl
+absent_after a (Slashed ∷ es) = refl
+absent_after a (_ ∷ es) = refl
 
-present_behind : (b : Bool) (a : Arg) (e : Expr) (es : List Entry) → before_slash b (Plain a (present e) ∷ es) ≡ option_map
-    (add_before_slash a (present e)) (behind true es)
-present_behind true a e [] = refl
-present_behind false a e [] = refl
-present_behind true a e (Slashed ∷ es) = refl
-present_behind false a e (Slashed ∷ es) = refl
-present_behind true a e (_ ∷ es) = refl
-present_behind false a e (_ ∷ es) = refl
+present_after : (b : Bool) (a : Arg) (e : Expr) (es : List Entry) → before_slash b (Plain a (present e) ∷ es) ≡ option_map
+    (add_before_slash a (present e)) (following true es)
+present_after true a e [] = refl
+present_after false a e [] = refl
+present_after true a e (Slashed ∷ es) = refl
+present_after false a e (Slashed ∷ es) = refl
+present_after true a e (_ ∷ es) = refl
+present_after false a e (_ ∷ es) = refl
 
 absent_first : (b c : Bool) (q : Arg) (qs : List Arg) (ds : List Expr) (a : Arg) (r : Arguments)
     → before (state stage.Open b (q ∷ qs) [] None [] [] None ds) (add_before_slash a absent r) ≡ before
@@ -180,7 +180,7 @@ by_slash false x h = refl
 
 -- the only stage at which a slash may follow
 open_steps : (b : Bool) (q : Arg) (qs : List Arg) (ds : List Expr) (es : List Entry)
-    → cond (has_slash es) (option_map (before (state stage.Open b (q ∷ qs) [] None [] [] None ds)) (behind b es))
+    → cond (has_slash es) (option_map (before (state stage.Open b (q ∷ qs) [] None [] [] None ds)) (following b es))
     (option_map (before (state stage.Open b [] (q ∷ qs) None [] [] None ds)) (plain_ones b es)) ≡ outcome
     (steps (state stage.Open b [] (q ∷ qs) None [] [] None ds) es)
 open_steps true q qs ds [] = refl
@@ -188,18 +188,18 @@ open_steps false q qs ds [] = refl
 open_steps b q qs ds (Slashed ∷ es) = plain_steps b (q ∷ qs) [] ds es
 open_steps true q qs ds (Plain a absent ∷ es) = no_choice (has_slash es) ∙ sym (wrong_steps true [] (q ∷ qs) None [] [] None ds es)
 open_steps false q qs ds (Plain a absent ∷ es) =
-    let one = ap (λ x. option_map (before (state stage.Open false (q ∷ qs) [] None [] [] None ds)) x) (absent_behind a es)
-    ∙ twice _ _ _ (behind false es) (absent_first false false q qs ds a) in
+    let one = ap (λ x. option_map (before (state stage.Open false (q ∷ qs) [] None [] [] None ds)) x) (absent_after a es)
+    ∙ twice _ _ _ (following false es) (absent_first false false q qs ds a) in
     let two = twice _ _ _ (plain_ones false es) (absent_before stage.Open false [] (q ∷ qs) ds a) in
     (λ i. cond (has_slash es) (one i) (two i)) ∙ open_steps false q (qs ++ (a ∷ [])) ds es
 open_steps true q qs ds (Plain a (present e) ∷ es) =
-    let one = ap (λ x. option_map (before (state stage.Open true (q ∷ qs) [] None [] [] None ds)) x) (present_behind true a e es)
-    ∙ twice _ _ _ (behind true es) (present_first true true q qs ds a e) in
+    let one = ap (λ x. option_map (before (state stage.Open true (q ∷ qs) [] None [] [] None ds)) x) (present_after true a e es)
+    ∙ twice _ _ _ (following true es) (present_first true true q qs ds a e) in
     let two = twice _ _ _ (plain_ones true es) (present_before stage.Open true true [] (q ∷ qs) ds a e) in
     (λ i. cond (has_slash es) (one i) (two i)) ∙ open_steps true q (qs ++ (a ∷ [])) (ds ++ (e ∷ [])) es
 open_steps false q qs ds (Plain a (present e) ∷ es) =
-    let one = ap (λ x. option_map (before (state stage.Open false (q ∷ qs) [] None [] [] None ds)) x) (present_behind false a e es)
-    ∙ twice _ _ _ (behind true es) (present_first false true q qs ds a e) in
+    let one = ap (λ x. option_map (before (state stage.Open false (q ∷ qs) [] None [] [] None ds)) x) (present_after false a e es)
+    ∙ twice _ _ _ (following true es) (present_first false true q qs ds a e) in
     let two = twice _ _ _ (plain_ones true es) (present_before stage.Open false true [] (q ∷ qs) ds a e) in
     (λ i. cond (has_slash es) (one i) (two i)) ∙ open_steps true q (qs ++ (a ∷ [])) (ds ++ (e ∷ [])) es
 open_steps true q qs ds (Bare ∷ es) =
@@ -277,11 +277,11 @@ pub arranged_steps : (es : List Entry) → arranged es ≡ outcome (steps start 
 arranged_steps [] = refl
 arranged_steps (Slashed ∷ es) = sym (wrong_steps false [] [] None [] [] None [] es)
 arranged_steps (Plain a absent ∷ es) =
-    let one = absent_behind a es ∙ same _ _ (behind false es) (absent_alone a) in
+    let one = absent_after a es ∙ same _ _ (following false es) (absent_alone a) in
     let two = same _ _ (plain_ones false es) (absent_only a) in
     (λ i. cond (has_slash es) (one i) (two i)) ∙ open_steps false a [] [] es
 arranged_steps (Plain a (present e) ∷ es) =
-    let one = present_behind false a e es ∙ same _ _ (behind true es) (present_alone a e) in
+    let one = present_after false a e es ∙ same _ _ (following true es) (present_alone a e) in
     let two = same _ _ (plain_ones true es) (present_only a e) in
     (λ i. cond (has_slash es) (one i) (two i)) ∙ open_steps true a [] (e ∷ []) es
 arranged_steps (Bare ∷ es) = by_slash (has_slash es) _ (λ h. slash_none false (Bare ∷ es) h) ∙ nothing_before _

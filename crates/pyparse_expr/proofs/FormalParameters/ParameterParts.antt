@@ -1,4 +1,4 @@
--- What stands behind a sign, and one parameter by what it begins with.
+-- What stands after a sign, and one parameter by what it begins with.
 --
 -- Carries: suffixed, read_parameter. On: Reading.
 use Rattle.std.proofs.Common.{◌≡◌, sym, ap, ◌∙◌, arith, ℕ, ◌+◌, ◌-◌, ◌≤◌, List, Option, Some, Bool, Result, Ok, Err}
@@ -77,7 +77,7 @@ module _ (ts : List given.Terminal) (d : Depth) (b : Bool) (at : ℕ) where
       ∙ name_next ts (at + 1) x (λ y r. collected_reads d b y r) NoForm q
       ∙ ap (λ n. collected_reads d b x (seen ts n)) (omega arith)
 
-  -- what is said of the terminals behind its begin
+  -- what is said of the terminals after its begin
   pub parameter_earlier : (x y : Answer Entry) (least most : ℕ) (z : Result ReadParameter Stop) → x ≡ y → least ≤ most
       → ParameterAnswered ts d.room most y z → ParameterAnswered ts d.room least x z
   parameter_earlier x y least most (Ok r) q le h = record {

@@ -132,7 +132,7 @@ module _ (ts : List given.Terminal) (d : Depth) (b : Bool) (x : Answer (List Ent
       → r.height ≡ entry_heights (c.entries ++ (entry_of p.parameter ∷ []))
   taller p r t h = h ∙ (λ i. max (c.tall i) (t i)) ∙ sym (entry_heights_more c.entries (entry_of p.parameter))
 
-  -- no comma behind one
+  -- no comma after one
   pub parameters_last : (p : ReadParameter) (r : Signature) (least : ℕ) → true ≡ starts (Parameter true) (seen ts s.next)
       → ParameterAt ts d.room (s.next + 1) (read_parameter (inner_reads d) b (seen ts s.next)) p
       → state_of r.formal ≡ step (state_of s.formal) (entry_of p.parameter) → r.height ≡ max s.height p.height → r.next ≡ p.next
@@ -155,7 +155,7 @@ module _ (ts : List given.Terminal) (d : Depth) (b : Bool) (x : Answer (List Ent
         tall = taller p r f.tall h;
       }
 
-  -- a comma behind one
+  -- a comma after one
   pub parameters_more : (p : ReadParameter) (r z : Signature) → true ≡ starts (Parameter true) (seen ts s.next)
       → ParameterAt ts d.room (s.next + 1) (read_parameter (inner_reads d) b (seen ts s.next)) p
       → state_of r.formal ≡ step (state_of s.formal) (entry_of p.parameter) → r.height ≡ max s.height p.height → r.next ≡ p.next
@@ -183,15 +183,15 @@ module _ (ts : List given.Terminal) (d : Depth) (b : Bool) (x : Answer (List Ent
             tall = zh ∙ taller p r f.tall h;
           }
 
--- a lambda, and what stands behind its parameters
+-- a lambda, and what stands after its parameters
 module _ (ts : List given.Terminal) (d : Depth) (at : ℕ) where
   pub lambda_failed : (e : Stop) → Failed e (listed d false (seen ts at)) → Failed e (cap d.room (lambda_step (inner_reads d) (seen ts at)))
   lambda_failed e f = failed_cap e d.room _ (failed_then e _ (λ ps r. body_reads d (arranged ps) r) f)
 
-  pub lambda_behind : (s : Signature) → SignatureAt ts d.room at (listed d false (seen ts at)) s → (z : Result Read Stop)
+  pub lambda_after : (s : Signature) → SignatureAt ts d.room at (listed d false (seen ts at)) s → (z : Result Read Stop)
       → Answered ts d.room (s.next + 1) (cap d.room (body_reads d (outcome (state_of s.formal)) (seen ts s.next))) z
       → Answered ts d.room (at + 1) (cap d.room (lambda_step (inner_reads d) (seen ts at))) z
-  lambda_behind s f z h =
+  lambda_after s f z h =
       let e : lambda_step (inner_reads d) (seen ts at) ≡ body_reads d (outcome (state_of s.formal)) (seen ts s.next) =
       ap (λ y. and_then y (λ ps r. body_reads d (arranged ps) r)) f.is
       ∙ ap (λ o. body_reads d o (seen ts s.next)) (arranged_steps f.entries ∙ ap outcome (sym f.state)) in

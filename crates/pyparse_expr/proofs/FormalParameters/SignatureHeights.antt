@@ -55,7 +55,7 @@ set_high a (arguments ps qs v ks kds k ds) =
     ap (λ z. max (arg_heights ps) z) (swap (arg_heights qs) (arg_height a) u)
     ∙ swap (arg_heights ps) (arg_height a) (max (arg_heights qs) u)
 
--- behind a star, by either measure
+-- after a star, by either measure
 after_high : (m : Arguments → ℕ)
     → ((a : Arg) (d : OptionalExpr) (r : Arguments) → m (add_keyword_only a d r) ≡ max (max (arg_height a) (optional_height d)) (m r))
     → m no_arguments ≡ 0 → ((a : Arg) → m (with_kwarg a) ≡ max (arg_height a) 0) → (es : List Entry)

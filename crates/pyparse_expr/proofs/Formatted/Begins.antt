@@ -1,4 +1,4 @@
--- What is read behind no other parts.
+-- What is read after no other parts.
 --
 -- Carries: formatted_atom, read_spec. On: JoinedStates, Views.
 use Rattle.std.proofs.Common.{◌≡◌, arith, ap, subst, ◌∙◌, ℕ, ◌≤◌, List, [], length, Bool, Result}
@@ -46,6 +46,6 @@ module _ (ts : List given.Terminal) (self : Reads) (u : Bool) (at : ℕ) (b : Jo
     parts_found j f = subst (λ k. length (seen ts k) ≤ most → PartsAt u ts k (parts_loop self u most [] (seen ts k)) j) q
         (λ w. f most [] w nothing) le
 
--- behind a place less is left
+-- after a place less is left
 pub further : (ts : List given.Terminal) (at n most : ℕ) → length (seen ts at) ≤ most → at ≤ n → length (seen ts n) ≤ most
 further ts at n most le w = omega (arith, le, w, seen_length ts at, seen_length ts n)

@@ -38,7 +38,7 @@ module _ (ts : List given.Terminal) (d : Depth) (u : Bool) (most : ℕ) where
   abbrev parts : List Terminal → Answer (List StringPart)
   parts i = parts_loop (inner_reads d) u most [] i
 
-  -- one part behind others
+  -- one part after others
   module _ (before : JoinedValues) (w : before.next < length ts) where
     pub text_added : (p : TextPiece) (points : List ℕ) (z : Result JoinedValues Stop) → points ≡ text_points (text_part p)
         → MatchResult z (λ j. Gathers (step u (state_of before) (Text points)) (before.next + 1) j) (λ s. s ≡ stop.Memory)
@@ -107,7 +107,7 @@ module _ (ts : List given.Terminal) (d : Depth) (u : Bool) (most : ℕ) where
                 ∙ ap (λ n. Found (present (tree_of r.expr.value)) (seen ts n)) (sym k.next_is);
           }
 
-  -- a field, from behind its begin
+  -- a field, from after its begin
   module _ (c : Conversion) (at : ℕ) where
     abbrev whole : Answer Expr
     whole = field_with (inner_reads d) parts u c (seen ts at)
@@ -119,19 +119,19 @@ module _ (ts : List given.Terminal) (d : Depth) (u : Bool) (most : ℕ) where
       abbrev ending : Expr → OptionalExpr → List Terminal → Answer Expr
       ending e s r2 = on_first is_field_end r2 (λ _ r3. Found (Trees.FormattedValue e c s) r3) NoForm
 
-      abbrev behind : Expr → List Terminal → Answer Expr
-      behind e r1 = and_then (spec_with parts u r1) (ending e)
+      abbrev following : Expr → List Terminal → Answer Expr
+      following e r1 = and_then (spec_with parts u r1) (ending e)
 
-      field_is : whole ≡ and_then (inner_reads d level.Atom (seen ts at)) behind
-      field_is = first_hit (is_op LPar) (seen ts at) 0 (λ _ _. and_then (inner_reads d level.Atom (seen ts at)) behind) NoForm
+      field_is : whole ≡ and_then (inner_reads d level.Atom (seen ts at)) following
+      field_is = first_hit (is_op LPar) (seen ts at) 0 (λ _ _. and_then (inner_reads d level.Atom (seen ts at)) following) NoForm
           (sym (ap (λ r. first_is (is_op LPar) r) p.is))
 
       pub value_failed : (e : Stop) → Failed e (inner_reads d level.Atom (seen ts at)) → Failed e whole
-      value_failed e f = rw field_is (failed_then e _ behind f)
+      value_failed e f = rw field_is (failed_then e _ following f)
 
       module _ (room : ℕ) (v : Read) (f : FoundAt ts room (at + 1) (inner_reads d level.Atom (seen ts at)) v) where
-        value_is : whole ≡ behind (tree_of v.expr.value) (seen ts v.next)
-        value_is = field_is ∙ ap (λ y. and_then y behind) f.is
+        value_is : whole ≡ following (tree_of v.expr.value) (seen ts v.next)
+        value_is = field_is ∙ ap (λ y. and_then y following) f.is
 
         pub field_spec_failed : (e : Stop) → Failed e (spec_with parts u (seen ts v.next)) → Failed e whole
         field_spec_failed e g = rw value_is (failed_then e _ (ending (tree_of v.expr.value)) g)

@@ -115,10 +115,10 @@ ran v w r s h = go (string_run [] r) refl h
     go TooDeep q h = absurd (cc)
     go (Found vs i) q h = one vs i (joined v vs) q refl h
 
--- what stands behind them
+-- what stands after them
 module _ (self : Reads) (v : Value) where
-  abbrev behind : List Value → List Terminal → Answer Expr
-  behind vs r = on_first is_formatted_begin r (λ _ r2. on_some (texts_of (v ∷ vs)) (λ ps. joined_step self (kind_of v) ps r2) NoForm)
+  abbrev following : List Value → List Terminal → Answer Expr
+  following vs r = on_first is_formatted_begin r (λ _ r2. on_some (texts_of (v ∷ vs)) (λ ps. joined_step self (kind_of v) ps r2) NoForm)
       (made (constant_of (joined v vs)) r)
 
   nowhere : (r : List Terminal) → ◌≡◌ {A = Answer Expr} (on_first is_formatted_begin r (λ _ _. NoForm) NoForm) NoForm
@@ -129,17 +129,17 @@ module _ (self : Reads) (v : Value) where
       go None = refl
       go (Some n) = refl
 
-  mixed : (vs : List Value) (r : List Terminal) → joined v vs ≡ None → behind vs r ≡ NoForm
+  mixed : (vs : List Value) (r : List Terminal) → joined v vs ≡ None → following vs r ≡ NoForm
   mixed vs r h = rw (no_texts v vs h, h) (nowhere r)
 
   pub literals_failed : (r : List Terminal) (e : Stop) → Failed e (run v r) → Failed e (literals self v r)
   literals_failed r stop.NoForm h = go (string_run [] r) h
     where
-      one : (vs : List Value) (i : List Terminal) (o : Option Value) → joined v vs ≡ o → made o i ≡ NoForm → behind vs i ≡ NoForm
+      one : (vs : List Value) (i : List Terminal) (o : Option Value) → joined v vs ≡ o → made o i ≡ NoForm → following vs i ≡ NoForm
       one vs i None j h = mixed vs i j
       one vs i (Some x) j h = absurd (cc)
 
-      go : (x : Answer (List Value)) → and_then x (λ vs i. made (joined v vs) i) ≡ NoForm → and_then x behind ≡ NoForm
+      go : (x : Answer (List Value)) → and_then x (λ vs i. made (joined v vs) i) ≡ NoForm → and_then x following ≡ NoForm
       go NoForm h = refl
       go TooDeep h = absurd (cc)
       go (Found vs i) h = one vs i (joined v vs) refl h
@@ -149,25 +149,25 @@ module _ (self : Reads) (v : Value) where
       one i None h = cc
       one i (Some x) h = cc
 
-      go : (x : Answer (List Value)) → and_then x (λ vs i. made (joined v vs) i) ≡ TooDeep → and_then x behind ≡ TooDeep
+      go : (x : Answer (List Value)) → and_then x (λ vs i. made (joined v vs) i) ≡ TooDeep → and_then x following ≡ TooDeep
       go NoForm h = absurd (cc)
       go TooDeep h = refl
       go (Found vs i) h = absurd (one i (joined v vs) h)
   literals_failed r stop.Memory h = tt
 
-  run_behind : (w : Value) (r s : List Terminal) (c : Ran v w r s) → literals self v r ≡ behind c.values s
-  run_behind w r s c = ap (λ x. and_then x behind) c.run_is
+  run_after : (w : Value) (r s : List Terminal) (c : Ran v w r s) → literals self v r ≡ following c.values s
+  run_after w r s c = ap (λ x. and_then x following) c.run_is
 
   literals_constant : (w : Value) (r s : List Terminal) → run v r ≡ Found w s → None ≡ first_is is_formatted_begin s
       → literals self v r ≡ Found (Trees.Constant w) s
   literals_constant w r s h n =
       let c = ran v w r s h in
-      run_behind w r s c ∙ first_miss is_formatted_begin s _ _ n ∙ ap (λ o. made (constant_of o) s) c.is
+      run_after w r s c ∙ first_miss is_formatted_begin s _ _ n ∙ ap (λ o. made (constant_of o) s) c.is
 
   literals_bytes : (b : List ℕ) (r s : List Terminal) → run v r ≡ Found (Values.Bytes b) (FormattedBegin ∷ s) → literals self v r ≡ NoForm
   literals_bytes b r s h =
       let c = ran v (Values.Bytes b) r (FormattedBegin ∷ s) h in
-      run_behind (Values.Bytes b) r (FormattedBegin ∷ s) c ∙ ap (λ o. on_some o (λ ps. joined_step self (kind_of v) ps s) NoForm)
+      run_after (Values.Bytes b) r (FormattedBegin ∷ s) c ∙ ap (λ o. on_some o (λ ps. joined_step self (kind_of v) ps s) NoForm)
       (bytes_texts v c.values b c.is)
 
   literals_texts : (t : List ℕ) (u : Bool) (r s : List Terminal) → run v r ≡ Found (Values.Str t u) (FormattedBegin ∷ s)
@@ -177,7 +177,7 @@ module _ (self : Reads) (v : Value) where
       let x = one_text v c.values t u c.is in (
         x.parts,
         x.gives,
-        run_behind (Values.Str t u) r (FormattedBegin ∷ s) c
+        run_after (Values.Str t u) r (FormattedBegin ∷ s) c
             ∙ ap (λ o. on_some o (λ ps. joined_step self (kind_of v) ps s) NoForm) x.texts ∙ ap (λ k. joined_step self k x.parts s) x.kind,
       )
 

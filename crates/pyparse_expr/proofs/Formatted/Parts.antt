@@ -246,7 +246,7 @@ module _ (ts : List given.Terminal) (d : Depth) (u : Bool) where
       gives = g.is ∙ f.gives;
     }
 
-    -- and all behind it
+    -- and all after it
     abbrev rest : List StringPart → List Terminal → Answer Expr
     rest ps r1 = and_then (literals_loop (inner_reads d) u (length r1) ps r1)
         (λ qs r2. Found (Trees.JoinedStr (values_of u (merged qs))) r2)

@@ -1,4 +1,4 @@
--- The values of parts one behind the other are those of the parts merged.
+-- The values of parts one after the other are those of the parts merged.
 --
 -- Carries: read_joined, read_spec. On: FormattedStrings, JoinedStates.
 use Rattle.std.proofs.Common.{◌≡◌, refl, sym, ap, ◌∙◌, ℕ, List, [], ◌∷◌, ◌++◌, append_assoc, Bool, false}

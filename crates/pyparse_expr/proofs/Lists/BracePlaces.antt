@@ -35,9 +35,9 @@ use Rattle.pyparse_expr.specs.Inner.Pairs.{pair_of}
 use Rattle.pyparse_expr.proofs.Lists.PairPlaces.{piece_as}
 use Rattle.pyparse_expr.proofs.Recorders.Aside.{kept_as}
 use Rattle.pyparse_expr.proofs.Recorders.Misses.{lacks_sign, not_named}
-use Rattle.pyparse_expr.proofs.Recorders.Reads.{ReadPlaced, LeftPlaced, behind_left, made_left, made_whole, placed_at}
+use Rattle.pyparse_expr.proofs.Recorders.Reads.{ReadPlaced, LeftPlaced, after_left, made_left, made_whole, placed_at}
 
--- what a reader behind a bracket says: of a whole that begins with it
+-- what a reader after a bracket says: of a whole that begins with it
 abbrev pub Enclosed : {S : Type 0} (after : S → Stretch → S) (ts : List given.Terminal) (i : List Terminal) (from : ℕ) (old new : S)
     → Read → Type 0
 Enclosed after ts i from old new r =
@@ -91,7 +91,7 @@ module _ {S : Type 0} (after : S → Stretch → S) (ts : List given.Terminal) w
   )
   dict_comp_placed key value gs room (Err e) c s h m b p colon d = tt
 
-  -- ---- Behind a key: a comprehension, or pairs.
+  -- ---- After a key: a comprehension, or pairs.
   pub keyed_comp : {i : List Terminal} {ps : List Stretch} {u v : S} (key value : Read) (from : ℕ) (w : S) (z : Result Read Stop)
       → (d : ReadPlaced after ts Expression (key.next + 1) u v value) → true ≡ starts_comp (seen ts value.next)
       → ((i : List Terminal) (ps vs : List Stretch) → true ≡ starts_comp (seen ts value.next)
@@ -109,7 +109,7 @@ module _ {S : Type 0} (after : S → Stretch → S) (ts : List given.Terminal) w
       go (Ok r) a = (d.0 ++ a.0, a.1, records_more d.2 a.2)
       go (Err e) a = tt
 
--- a Dict behind its first pair, as it says of any recorder before the value of that pair
+-- a Dict after its first pair, as it says of any recorder before the value of that pair
 abbrev pub DictPlaced : {S : Type 0} (after beside : S → Stretch → S) (count : S → ℕ) (ts : List given.Terminal) (first : pair.Pair)
     (from n : ℕ) (old new : S) → Result Read Stop → Type 0
 DictPlaced {S} after beside count ts first from n old new z =
@@ -145,14 +145,14 @@ module _ {S : Type 0} {after : S → Stretch → S} {at : ℕ} {u v : S} (ts : L
   pub braces_set : ((i : List Terminal) (ps : List Stretch)
       → Placed Elem i (from + 1) (tree_of first.expr.value) (seen ts first.next) first.next ps
       → IfOk z (λ r. LeftPlaced after ts Atom (Op LBrace ∷ i) from ps v w r)) → IfOk z (λ r. Enclosed after ts (seen ts at) from u w r)
-  braces_set f = behind_left ts Atom (Op LBrace ∷ seen ts at) from w z d.2 (f (seen ts at) d.0 (placed_at q d.1))
+  braces_set f = after_left ts Atom (Op LBrace ∷ seen ts at) from w z d.2 (f (seen ts at) d.0 (placed_at q d.1))
 
   pub braces_comp : None ≡ first_is (is_op Star) (seen ts at) → true ≡ starts_comp (seen ts first.next)
       → ((i : List Terminal) (ps : List Stretch) → true ≡ starts_comp (seen ts first.next)
       → Placed Named i (from + 1) (tree_of first.expr.value) (seen ts first.next) first.next ps
       → IfOk z (λ r. LeftPlaced after ts Atom (Op LBrace ∷ i) from ps v w r)) → IfOk z (λ r. Enclosed after ts (seen ts at) from u w r)
   braces_comp n b f =
-      behind_left ts Atom (Op LBrace ∷ seen ts at) from w z d.2
+      after_left ts Atom (Op LBrace ∷ seen ts at) from w z d.2
       (f (seen ts at) d.0 b (placed_at q (elem_named d.1 (lacks_sign (seen ts at) Star n))))
 
   pub braces_keyed : None ≡ first_is (is_op Star) (seen ts at) → IsNotNamed ColonEqual ts at → Stands (Op Colon) ts first.next
@@ -161,4 +161,4 @@ module _ {S : Type 0} {after : S → Stretch → S} {at : ℕ} {u v : S} (ts : L
       → IfOk z (λ r. LeftPlaced after ts Atom (Op LBrace ∷ i) from ps v w r)) → IfOk z (λ r. Enclosed after ts (seen ts at) from u w r)
   braces_keyed n m colon f =
       let p = named_expression (elem_named d.1 (lacks_sign (seen ts at) Star n)) (not_named (seen ts at) m.is) in
-      behind_left ts Atom (Op LBrace ∷ seen ts at) from w z d.2 (f (seen ts at) d.0 (placed_at q p) colon)
+      after_left ts Atom (Op LBrace ∷ seen ts at) from w z d.2 (f (seen ts at) d.0 (placed_at q p) colon)

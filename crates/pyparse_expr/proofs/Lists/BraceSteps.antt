@@ -1,4 +1,4 @@
--- What stands in braces, behind the first element or pair.
+-- What stands in braces, after the first element or pair.
 --
 -- Carries: set_from, dict_from. On: ListSteps, PairSteps.
 use Rattle.std.proofs.Common.{◌≡◌, refl, sym, ap, ◌∙◌, arith, ◌+◌, List, [], ◌∷◌, map, None, Result}
@@ -31,13 +31,13 @@ use Rattle.pyparse_expr.proofs.Reader.Reading.{first_miss, failed_then, failed_c
 use Rattle.pyparse_expr.proofs.Lists.ListSteps.{singles_all}
 use Rattle.pyparse_expr.proofs.Lists.PairSteps.{pairs_keys, pairs_values}
 
--- a set behind its first element
-abbrev pub set_behind : Depth → Expr → List Terminal → Answer Expr
-set_behind d e r = and_then (others_of (inner_reads d) (Of level.Elem) (Single e) r) (λ es s. closed RBrace s (Trees.Set (singles es)))
+-- a set after its first element
+abbrev pub set_after : Depth → Expr → List Terminal → Answer Expr
+set_after d e r = and_then (others_of (inner_reads d) (Of level.Elem) (Single e) r) (λ es s. closed RBrace s (Trees.Set (singles es)))
 
 module _ (ts : List given.Terminal) (d : Depth) (b : Read) where
   set_is : (r : Items) → ListedAt ts d.room b.next (more_at d item.Elem (Single (tree_of b.expr.value) ∷ []) (seen ts b.next)) r
-      → set_behind d (tree_of b.expr.value) (seen ts b.next) ≡ closed RBrace (seen ts r.next)
+      → set_after d (tree_of b.expr.value) (seen ts b.next) ≡ closed RBrace (seen ts r.next)
       (Trees.Set (exprs (map tree_of r.exprs.items)))
   set_is r l = ap (λ z. and_then z (λ es s. closed RBrace s (Trees.Set (singles es)))) l.is
       ∙ ap (λ es. closed RBrace (seen ts r.next) (Trees.Set es)) (singles_all (map tree_of r.exprs.items))
@@ -45,14 +45,14 @@ module _ (ts : List given.Terminal) (d : Depth) (b : Read) where
   pub set_made : (r : Items) (z : Result Read Stop)
       → ListedAt ts d.room b.next (more_at d item.Elem (Single (tree_of b.expr.value) ∷ []) (seen ts b.next)) r
       → Stands (Op RBrace) ts r.next → Makes d.room (Trees.Set (exprs (map tree_of r.exprs.items))) (r.next + 1) z
-      → Answered ts d.room b.next (cap d.room (set_behind d (tree_of b.expr.value) (seen ts b.next))) z
+      → Answered ts d.room b.next (cap d.room (set_after d (tree_of b.expr.value) (seen ts b.next))) z
   set_made r z l s m =
       let k : closed RBrace (seen ts r.next) (Trees.Set (exprs (map tree_of r.exprs.items))) ≡ Found
       (Trees.Set (exprs (map tree_of r.exprs.items))) (seen ts (r.next + 1)) = rw s.is refl in
       rw (set_is r l ∙ k) (node ts d.room b.next (Trees.Set (exprs (map tree_of r.exprs.items))) (r.next + 1) z (omega (arith, l.ahead))
       (omega (arith, s.within)) m)
 
--- a dictionary behind its first pair
+-- a dictionary after its first pair
 module _ (ts : List given.Terminal) (d : Depth) (p : Pair) (q : Pairs) (one : pairs_of q ≡ pair_of p ∷ []) (place : q.next ≡ p.next) where
   others_is : others_of (inner_reads d) entries.Pair (pair_of p) (seen ts p.next) ≡ more_pairs_at d (pairs_of q) (seen ts q.next)
   others_is = ap (λ n. more_pairs_at d (pair_of p ∷ []) (seen ts n)) (sym place) ∙ ap (λ es. more_pairs_at d es (seen ts q.next)) (sym one)

@@ -29,7 +29,7 @@ use Rattle.pyplaces.specs.Rests.{Others}
 use Rattle.pyplaces.proofs.Answers.{read_as, records_none, records_node, records_more}
 use Rattle.pyplaces.proofs.Loops.{Grows, grows_start}
 use Rattle.pyplaces.proofs.Selections.{singles_append, with_one}
-use Rattle.pyplaces.proofs.Expressions.Listings.{placed_single, others_turn, others_end, others_comma, listed, behind_comma}
+use Rattle.pyplaces.proofs.Expressions.Listings.{placed_single, others_turn, others_end, others_comma, listed, after_comma}
 use Rattle.pyplaces.proofs.Expressions.Braces.{placed_set}
 use Rattle.pyparse_expr.specs.Inner.Found.{entries_of}
 use Rattle.pyparse_expr.specs.Inner.PlacedLists.{MorePlaced, OthersPlaced, TuplePlaced}
@@ -93,7 +93,7 @@ module _ {S : Type 0} {after : S → Stretch → S} {ts : List given.Terminal} {
         records = records_as (with_one (E.singles g.places) d.0 (singles_append g.places its)) (records_more g.records d.2);
       }
 
-  -- no comma stands behind them
+  -- no comma stands after them
   pub grown_end : {first items : Items} {u v : S} → Grown after ts j first items u v → None ≡ first_is (is_op Comma) (seen ts items.next)
       → MorePlaced after ts j first items u v
   grown_end {items = items} g n = record {
@@ -123,7 +123,7 @@ module _ {S : Type 0} {after : S → Stretch → S} {ts : List given.Terminal} {
     es = o.es;
     places = o.places;
     tree = m.tree ∙ ap (λ z. Trees.Tuple z Load) o.elements;
-    listing = read_as (seen ts) m.next_is (behind_comma o.others s.is);
+    listing = read_as (seen ts) m.next_is (after_comma o.others s.is);
     records = records_more o.records (records_node (h ∙ ap (λ n. after v (stretch at n)) (sym m.next_is)));
   }
   tuple_placed room (Err e) s o h m = tt

@@ -228,7 +228,7 @@ pub singles_all : (es : List Expr) → singles (map (λ t. Single t) es) ≡ exp
 singles_all [] = refl
 singles_all (e ∷ es) = ap (λ r. an_expr e r) (singles_all es)
 
--- what is made of a list behind a comma, by the list with the first item in front
+-- what is made of a list after a comma, by the list with the first item in front
 pub fronted : (ts : List given.Terminal) (d : Depth) (i : Item) (b : Expr) (n : ℕ) (k : Exprs → List Terminal → Answer Expr)
     → Stands (Op Comma) ts n → and_then (items_of d i [] (seen ts (n + 1))) (λ es r. k (an_expr b (singles es)) r) ≡ and_then
     (more_at d i (Single b ∷ []) (seen ts n)) (λ es r. k (singles es) r)

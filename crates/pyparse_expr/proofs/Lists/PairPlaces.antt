@@ -121,7 +121,7 @@ module _ {S : Type 0} {after beside : S → Stretch → S} {ts : List given.Term
     kept = g.kept;
   }
 
-  -- ---- A Dict behind its first pair, whose value was set aside; w is the recorder before that value.
+  -- ---- A Dict after its first pair, whose value was set aside; w is the recorder before that value.
   pub dict_placed : {one pairs : Pairs} {from n : ℕ} {i : List Terminal} {p : EntryPlaces} {w u v x y : S} (first : pair.Pair)
       (room : ℕ) (z : Result Read Stop) (count : S → ℕ)
       → ((x : S) (s t : Stretch) → beside (after x s) t ≡ after (beside x t) s)

@@ -29,7 +29,7 @@ use Rattle.pyparse_nodes.specs.Views.{Stands, seen, first_is, lead_of}
 use Rattle.pyparse_expr.proofs.Reader.Reading.{first_miss, failed_then, failed_cap, earlier, node}
 use Rattle.pyparse_expr.proofs.Lists.ListSteps.{not_starts, do_starts, singles_all}
 
--- behind the first element
+-- after the first element
 abbrev square_with : Reads → List Terminal → Expr → List Terminal → Answer Expr
 square_with self r e r1 = cond (starts_comp r1) (unstarred r (comps_closed self RSqb r1 (λ gs. Trees.ListComp e (comprehensions gs))))
     (and_then (others_of self (Of level.Elem) (Single e) r1) (λ es r2. closed RSqb r2 (Trees.ListOf (singles es) Load)))

@@ -13,7 +13,7 @@ use Rattle.pytoken.specs.Terminals.{Terminal, Op, Word}
 use Rattle.pytoken.specs.declared.values.terminals.Terminal as given
 use Rattle.pygrammar.specs.Looks.{is_word}
 use Rattle.pygrammar.specs.Operators.{chain_word, comparison}
-use Rattle.pygrammar.specs.Precedence.{Joins, Compares, behind}
+use Rattle.pygrammar.specs.Precedence.{Joins, Compares, following}
 use Rattle.pygrammar.specs.Reader.{Answer, NoForm, TooDeep, Reads, on_first, on_some, on_comparison}
 use Rattle.pyparse_expr.specs.declared.chains.Compared.{Compared}
 use Rattle.pyparse_nodes.specs.declared.stop.Stop.TheVariants as stop
@@ -84,7 +84,7 @@ same f (t ∷ r) x = go (f t)
     go None = refl
     go (Some a) = refl
 
-seen_sign : (self : Reads) (t : Terminal) (r : List Terminal) → Some Compares ≡ behind t
+seen_sign : (self : Reads) (t : Terminal) (r : List Terminal) → Some Compares ≡ following t
     → ◌≡◌ {A = Answer Expr} (on_comparison self (t ∷ r) (λ _ _. NoForm) TooDeep) NoForm
 seen_sign self (Op EqEqual) r h = refl
 seen_sign self (Op NotEqual) r h = refl
@@ -99,13 +99,13 @@ seen_sign self (Word Key.Is) r h = same (is_word Key.Not) r NoForm
 seen_sign self (Word _) r h = absurd (cc)
 seen_sign self _ r h = absurd (cc)
 
-pub compares : (ts : List given.Terminal) (n : ℕ) → Some Compares ≡ first_is behind (seen ts n) → NotComparedAt ts n → ⊥
+pub compares : (ts : List given.Terminal) (n : ℕ) → Some Compares ≡ first_is following (seen ts n) → NotComparedAt ts n → ⊥
 compares ts n h c = go (seen ts n) h (c.is (λ _ _. NoForm) (λ _ _. NoForm) TooDeep)
   where
     differ : ◌≡◌ {A = Answer Expr} NoForm TooDeep → ⊥
     differ q = absurd (cc)
 
-    go : (r : List Terminal) → Some Compares ≡ first_is behind r
+    go : (r : List Terminal) → Some Compares ≡ first_is following r
         → ◌≡◌ {A = Answer Expr} (on_comparison (λ _ _. NoForm) r (λ _ _. NoForm) TooDeep) TooDeep → ⊥
     go [] h q = absurd (cc)
     go (t ∷ r) h q = differ (sym (seen_sign (λ _ _. NoForm) t r h) ∙ q)
@@ -119,7 +119,7 @@ pub miss_sign : (ts : List given.Terminal) (at : ℕ) (o : Option Compared) → 
 miss_sign ts at o q m = subst (λ p. MatchOption p (NotComparedAt ts at) (λ x. ComparedAt ts at x)) q m
 
 -- an `and` or `or` is its word
-joins_word : (t : Terminal) (o : BoolOperator) → Some (Joins o) ≡ behind t → t ≡ Word (chain_word o)
+joins_word : (t : Terminal) (o : BoolOperator) → Some (Joins o) ≡ following t → t ≡ Word (chain_word o)
 joins_word (Word Key.Or) Join.Or h = refl
 joins_word (Word Key.And) Join.And h = refl
 joins_word (Word _) o h = absurd (cc)
@@ -127,13 +127,13 @@ joins_word (Op EqEqual) o h = absurd (cc)
 joins_word (Op _) o h = absurd (cc)
 joins_word _ o h = absurd (cc)
 
-pub joins_stands : (ts : List given.Terminal) (n k : ℕ) (o : BoolOperator) → n < length ts → Some (Joins o) ≡ first_is behind (seen ts n)
+pub joins_stands : (ts : List given.Terminal) (n k : ℕ) (o : BoolOperator) → n < length ts → Some (Joins o) ≡ first_is following (seen ts n)
     → k ≡ n → Stands (Word (chain_word o)) ts k
 joins_stands ts n k o w h q = record {
   within = omega (arith, w, q);
   is = front ts k (Word (chain_word o)) (ap (λ m. first_of (seen ts m)) q ∙ go (seen ts n) h);
 }
   where
-    go : (r : List Terminal) → Some (Joins o) ≡ first_is behind r → first_of r ≡ Some (Word (chain_word o))
+    go : (r : List Terminal) → Some (Joins o) ≡ first_is following r → first_of r ≡ Some (Word (chain_word o))
     go [] h = absurd (cc)
     go (t ∷ r) h = ap (λ z. Some z) (joins_word t o h)

@@ -65,7 +65,7 @@ module _ (d : ℕ) (inner : Reads) (e : Expr) where
   no_if (Op s ∷ r) h = refl
   no_if (_ ∷ r) h = absurd (cc)
 
--- the levels from Primary up to Expression, behind an atom
+-- the levels from Primary up to Expression, after an atom
 module _ (d : ℕ) (inner : Reads) where
   abbrev trails : Answer Expr → Answer Expr
   trails y = cap d (and_then y (λ e r. capped_primary d inner (length r) e r))

@@ -29,7 +29,7 @@ use Rattle.pyparse_nodes.specs.Views.{Stands, seen, first_is}
 use Rattle.pyparse_expr.proofs.Places.Signs.{compares}
 use Rattle.pyparse_expr.proofs.Reader.Reading.{first_miss, failed_then, failed_cap, node, seen_length}
 
--- a place that is not the first one is behind it
+-- a place that is not the first one is after it
 further : (n k : ℕ) → (k ≡ n → ⊥) → n ≤ k → n + 1 ≤ k
 further n k f le = go (k - n) refl
   where
@@ -238,7 +238,7 @@ module _ (ts : List given.Terminal) (d : Depth) (e : Expr) where
   ends (suc m) n ops es h = h.is (inner_reads d) (λ o r. side m ops es o (inner_reads d level.BitOr r)) (whole ops es (seen ts n))
 
   pub compare_made : (n : ℕ) (x : Answer Expr) (ops : List Comparison) (items : Items) (z : Result Read Stop) → Sides x ops items
-      → NotComparedAt ts items.next → n ≤ items.next → Some precedence.Compares ≡ first_is precedence.behind (seen ts n)
+      → NotComparedAt ts items.next → n ≤ items.next → Some precedence.Compares ≡ first_is precedence.following (seen ts n)
       → Makes d.room (Trees.Compare e ops (exprs (map tree_of items.exprs.items))) items.next z
       → Answered ts d.room (n + 1) (cap d.room x) z
   compare_made n x ops items z c h le s m =

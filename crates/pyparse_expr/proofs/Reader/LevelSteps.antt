@@ -207,10 +207,10 @@ module _ (ts : List given.Terminal) (d : Depth) (at : ℕ) (o : IsOpen d) where
       → FoundAt ts d.room (at + 1) (reads d level.Part (seen ts at)) b → None ≡ first_is (is_op Comma) (seen ts b.next)
       → Stands (Op Star) ts at → es ≡ tree_of b.expr.value ∷ [] → n ≡ b.next → Makes d.room (Trees.Tuple (Trees.exprs es) Load) n z
       → Answered ts d.room (at + 1) (reads d level.Slices (seen ts at)) z
-  slices_star b es behind z f n s q p m =
+  slices_star b es following z f n s q p m =
       let e = slices_is b f ∙ ap (λ z. cap d.room z) (first_miss (is_op Comma) (seen ts b.next) _ _ n) in
       let w = subst (λ (k : ℕ). Makes d.room (Trees.Tuple (an_expr (tree_of b.expr.value) no_exprs) Load) k z) p
-      (subst (λ (ys : List Expr). Makes d.room (Trees.Tuple (Trees.exprs ys) Load) behind z) q m) in
+      (subst (λ (ys : List Expr). Makes d.room (Trees.Tuple (Trees.exprs ys) Load) following z) q m) in
       by_level ts (at + 1) d level.Slices (seen ts at) z o
       (rw (e, s.is) (node ts d.room (at + 1) (Trees.Tuple (an_expr (tree_of b.expr.value) no_exprs) Load) b.next z f.ahead f.within w))
 

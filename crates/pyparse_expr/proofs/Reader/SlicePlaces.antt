@@ -31,7 +31,7 @@ use Rattle.pyplaces.proofs.Expressions.Slices.{placed_slice, placed_slice_step}
 use Rattle.pyparse_expr.specs.Inner.PlacedLists.{TuplePlaced}
 use Rattle.pyparse_expr.proofs.Lists.ListPlaces.{ItemPlaced, item_placed}
 use Rattle.pyparse_expr.proofs.Recorders.Misses.{lacks_sign, not_named}
-use Rattle.pyparse_expr.proofs.Recorders.Reads.{ReadPlaced, LeftPlaced, behind_left, made_left}
+use Rattle.pyparse_expr.proofs.Recorders.Reads.{ReadPlaced, LeftPlaced, after_left, made_left}
 
 -- a part, read at a place, with what stands first
 abbrev pub PartPlaced : {S : Type 0} (after : S → Stretch → S) (ts : List given.Terminal) (at : ℕ) (old new : S) → Read → Type 0
@@ -105,7 +105,7 @@ module _ {S : Type 0} (after : S → Stretch → S) (ts : List given.Terminal) (
       → PlacedPerhaps Expression (seen ts at) at (optional (Some (tree_of lower.expr.value))) (seen ts n) n ps
       → IfOk z (λ r. LeftPlaced after ts Slice (seen ts at) at ps v w r))
       → IfOk z (λ r. ReadPlaced after ts Slice at u w r)
-  slice_from_placed lower w z p m s f = behind_left ts Slice (seen ts at) at w z p.2
+  slice_from_placed lower w z p m s f = after_left ts Slice (seen ts at) at w z p.2
       (f lower.next p.0 s refl (placed_something (named_expression p.1 (not_named (seen ts at) m.is))))
 
 module _ {S : Type 0} {after : S → Stretch → S} {ts : List given.Terminal} {from at n : ℕ} {lower : OptionalExpr} {ps : List Stretch}

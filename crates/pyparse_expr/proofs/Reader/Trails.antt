@@ -1,4 +1,4 @@
--- Attributes, calls and subscripts: the loop over what stands behind an atom.
+-- Attributes, calls and subscripts: the loop over what stands after an atom.
 --
 -- Carries: read_primary. On: Reading.
 use Rattle.std.proofs.Common.{◌≡◌, refl, ap, ◌∙◌, arith, ℕ, zero, suc, ◌+◌, ◌≤◌, ◌<◌, List, [], ◌∷◌, length, Option, Some, None, Result, Ok}
@@ -27,7 +27,7 @@ use Rattle.pyparse_expr.proofs.Reader.Reading.{by_level}
 abbrev pub primary_step : Reads → Reads → ℕ → List Terminal → Answer Expr
 primary_step next inner room i = and_then (next level.Atom i) (λ e r. capped_primary room inner (length r) e r)
 
--- what may stand behind: an attribute, from behind its dot; a subscript, from behind its bracket
+-- what may stand after: an attribute, from after its dot; a subscript, from after its bracket
 abbrev pub attribute_at : ℕ → Expr → List Terminal → Answer Expr
 attribute_at room e r = cap room (on_first name_in r (λ x r2. Found (Trees.Attribute e x Load) r2) NoForm)
 
@@ -86,7 +86,7 @@ trail_start ts d i least r h = record {
   is = ap (λ y. and_then y (λ e rest. capped_primary d.room (inner_reads d) (length rest) e rest)) h.is;
 }
 
--- one more thing behind, that is read by y
+-- one more thing after, that is read by y
 abbrev Turn : List given.Terminal → Depth → ℕ → Expr → List Terminal → Answer Expr → Type 0
 Turn ts d m e r y = capped_primary d.room (inner_reads d) (suc m) e r ≡ and_then y (λ f r2. capped_primary d.room (inner_reads d) m f r2)
 

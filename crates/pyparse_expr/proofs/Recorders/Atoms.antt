@@ -34,9 +34,9 @@ use Rattle.pyplaces.proofs.Answers.{placed_as, records_node, records_more}
 use Rattle.pyplaces.proofs.Expressions.Atoms.{placed_group, placed_yield_group, placed_empty_tuple, placed_tuple, placed_generator_group}
 use Rattle.pyplaces.proofs.Expressions.Atoms.{placed_list, placed_list_comp}
 use Rattle.pyplaces.proofs.Expressions.Comprehensions.{clauses_some}
-use Rattle.pyplaces.proofs.Expressions.Listings.{placed_single, placed_no_item, listed, behind_comma}
+use Rattle.pyplaces.proofs.Expressions.Listings.{placed_single, placed_no_item, listed, after_comma}
 use Rattle.pyplaces.proofs.Expressions.Readings.{elem_named}
-use Rattle.pyparse_expr.proofs.Recorders.Made.{Whole, WholeBehind, at_next, whole_made, whole_behind, leaf_made}
+use Rattle.pyparse_expr.proofs.Recorders.Made.{Whole, WholeAfter, at_next, whole_made, whole_after, leaf_made}
 use Rattle.pyparse_reads.proofs.Callers.Looks.{no_op}
 
 module _ {S : Type 0} (after : S → Stretch → S) (u v : S) (ts : List given.Terminal) where
@@ -84,20 +84,20 @@ module _ {S : Type 0} (after : S → Stretch → S) (u v : S) (ts : List given.T
       )
   yield_group_placed begin at e (Err o) q y p k h = tt
 
-  -- a tuple, and a generator expression, behind the first element
+  -- a tuple, and a generator expression, after the first element
   pub group_tuple_placed : {w : S} (begin room : ℕ) (i : List Terminal) (ps : List Stretch) (first : Read)
       (items : Items) (z : Result Read Stop)
       → Placed level.Elem i (begin + 1) (tree_of first.expr.value) (seen ts first.next) first.next ps
       → Stands (Op Comma) ts first.next → OthersPlaced after ts (Of level.Elem) first items u w → Stands (Op RPar) ts items.next
       → v ≡ after w (stretch begin (items.next + 1))
       → Makes room (Trees.Tuple (exprs (map tree_of items.exprs.items)) Load) (items.next + 1) z
-      → IfOk z (WholeBehind after ts level.Atom (Op LPar ∷ i) begin ps u v)
+      → IfOk z (WholeAfter after ts level.Atom (Op LPar ∷ i) begin ps u v)
   group_tuple_placed begin room i ps first items z p c o y h m =
-      whole_behind after u v ts ps level.Atom (Op LPar ∷ i) begin room (Trees.Tuple (exprs (map tree_of items.exprs.items))
+      whole_after after u v ts ps level.Atom (Op LPar ∷ i) begin room (Trees.Tuple (exprs (map tree_of items.exprs.items))
       Load) (items.next + 1) z m
       (subst (λ l. Placed level.Atom (Op LPar ∷ i) begin (Trees.Tuple l Load) (seen ts (items.next + 1)) (items.next + 1)
       (ps ++ (E.singles o.places ++ (stretch begin (items.next + 1) ∷ [])))) (sym o.elements)
-      (placed_tuple refl p c.is (behind_comma o.others c.is) y.is)) (records_more o.records (records_node h))
+      (placed_tuple refl p c.is (after_comma o.others c.is) y.is)) (records_more o.records (records_node h))
 
   pub generator_placed : {w : S} {qs : List Stretch} (begin room : ℕ) (i : List Terminal) (ps : List Stretch) (first : Read)
       (comps : ForClauses) (z : Result Read Stop)
@@ -107,9 +107,9 @@ module _ {S : Type 0} (after : S → Stretch → S) (u v : S) (ts : List given.T
       → Records after u qs w → Stands (Op RPar) ts comps.next → v ≡ after w (stretch begin (comps.next + 1))
       → Makes room (Trees.GeneratorExp (tree_of first.expr.value) (comprehensions (map comprehension_of comps.generators.items)))
       (comps.next + 1) z
-      → IfOk z (WholeBehind after ts level.Atom (Op LPar ∷ i) begin ps u v)
+      → IfOk z (WholeAfter after ts level.Atom (Op LPar ∷ i) begin ps u v)
   generator_placed begin room i ps first comps z p b c k y h m =
-      whole_behind after u v ts ps level.Atom (Op LPar ∷ i) begin room
+      whole_after after u v ts ps level.Atom (Op LPar ∷ i) begin room
       (Trees.GeneratorExp (tree_of first.expr.value) (comprehensions (map comprehension_of comps.generators.items))) (comps.next + 1) z m
       (placed_generator_group refl p (clauses_some c (sym b)) y.is) (records_more k (records_node h))
 
@@ -148,8 +148,8 @@ module _ {S : Type 0} (after : S → Stretch → S) (u v : S) (ts : List given.T
       → Records after u qs w → Stands (Op RSqb) ts comps.next → v ≡ after w (stretch begin (comps.next + 1))
       → Makes room (Trees.ListComp (tree_of first.expr.value) (comprehensions (map comprehension_of comps.generators.items)))
       (comps.next + 1) z
-      → IfOk z (WholeBehind after ts level.Atom (Op LSqb ∷ i) begin ps u v)
+      → IfOk z (WholeAfter after ts level.Atom (Op LSqb ∷ i) begin ps u v)
   list_comp_placed begin room i ps first comps z p b c k y h m =
-      whole_behind after u v ts ps level.Atom (Op LSqb ∷ i) begin room
+      whole_after after u v ts ps level.Atom (Op LSqb ∷ i) begin room
       (Trees.ListComp (tree_of first.expr.value) (comprehensions (map comprehension_of comps.generators.items))) (comps.next + 1) z m
       (placed_list_comp refl p (clauses_some c (sym b)) y.is) (records_more k (records_node h))

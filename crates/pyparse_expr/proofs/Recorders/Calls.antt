@@ -60,14 +60,14 @@ module _ {S : Type 0} {after beside : S → Stretch → S} where
   spread_kept s r h = kept_records (records_more r (records_node h))
 
 -- by what it begins with
-piece_of : {behind : ℕ} {r : List Terminal} {e : Expr} {ps : List Stretch} (ts : List given.Terminal) (at : ℕ) (k : ArgumentForm)
-    → Begins k ts at → Placed (level_of k) (seen ts (place_of k at)) (place_of k at) e r behind ps
-    → PlacedPiece Argument (seen ts at) at (entry_of k e) r behind (places_of k ps (stretch at behind))
+piece_of : {following : ℕ} {r : List Terminal} {e : Expr} {ps : List Stretch} (ts : List given.Terminal) (at : ℕ) (k : ArgumentForm)
+    → Begins k ts at → Placed (level_of k) (seen ts (place_of k at)) (place_of k at) e r following ps
+    → PlacedPiece Argument (seen ts at) at (entry_of k e) r following (places_of k ps (stretch at following))
 piece_of ts at kind.Single b p = placed_argument p
 piece_of ts at kind.Spread b p = placed_star_argument b.is p
 piece_of ts at kind.Doubled b p = placed_double_argument b.is p
-piece_of {behind} {r} {e} {ps} ts at (kind.Keyed x) b p =
-    subst (λ z. PlacedPiece Argument (seen ts at) at (Keyed z e) r behind (E.Keyed ps (stretch at behind))) b.form
+piece_of {following} {r} {e} {ps} ts at (kind.Keyed x) b p =
+    subst (λ z. PlacedPiece Argument (seen ts at) at (Keyed z e) r following (E.Keyed ps (stretch at following))) b.form
     (placed_keyword_argument b.is p)
 
 -- how far the loop has come
@@ -79,11 +79,11 @@ pub record ArgumentsGrow {S : Type 0} (after beside : S → Stretch → S) (ts :
   pub gives : state_of a ≡ steps s entries
   pub kept : Kept after beside u (E.positional places) (E.keywords places) v
 
-pub single_read : {e : Expr} {r : List Terminal} {behind : ℕ} {ps : List Stretch} (ts : List given.Terminal) (at : ℕ) (k : ArgumentForm)
-    → k ≡ kind.Single → Placed (level_of k) (seen ts (place_of k at)) (place_of k at) e r behind ps
-    → Placed Named (seen ts at) at e r behind ps
-single_read {e} {r} {behind} {ps} ts at k q p =
-    subst (λ z. Placed (level_of z) (seen ts (place_of z at)) (place_of z at) e r behind ps) q p
+pub single_read : {e : Expr} {r : List Terminal} {following : ℕ} {ps : List Stretch} (ts : List given.Terminal) (at : ℕ) (k : ArgumentForm)
+    → k ≡ kind.Single → Placed (level_of k) (seen ts (place_of k at)) (place_of k at) e r following ps
+    → Placed Named (seen ts at) at e r following ps
+single_read {e} {r} {following} {ps} ts at k q p =
+    subst (λ z. Placed (level_of z) (seen ts (place_of z at)) (place_of z at) e r following ps) q p
 
 one_more : (s : State) (a r : Actual) (es : List Entry) (e : Entry) → state_of a ≡ steps s es → state_of r ≡ step (state_of a) e
     → state_of r ≡ steps s (es ++ (e ∷ []))
@@ -152,13 +152,13 @@ module _ {S : Type 0} {after beside : S → Stretch → S} (ts : List given.Term
     kept = fields g.places (p.place ∷ []) h g.kept p.kept;
   }
 
-  -- from behind some on
+  -- from after some on
   kept_from : {u v : S} (m n : ℕ) (s t : State) (a : Actual) → m ≡ n → s ≡ t → ArgumentsKept after beside ts m s a u v
       → ArgumentsKept after beside ts n t a u v
   kept_from {u} {v} m n s t a q e k =
       subst (λ z. ArgumentsKept after beside ts z t a u v) q (subst (λ z. ArgumentsKept after beside ts m z a u v) e k)
 
-  -- none, one alone, and one with others behind a comma
+  -- none, one alone, and one with others after a comma
   pub no_arguments : (at : ℕ) (a : Actual) (u : S) → a.next ≡ at → state_of a ≡ start → ArgumentsKept after beside ts at start a u u
   no_arguments at a u q e = record {
     entries = [];

@@ -38,7 +38,7 @@ use Rattle.pyplaces.proofs.Expressions.Chains.{links_turn, links_end, links_some
 use Rattle.pyplaces.proofs.Expressions.Chains.{sign_one, sign_not_in, sign_is, sign_is_not}
 use Rattle.pyplaces.proofs.Expressions.Climbing.{standing_chain, standing_compare}
 use Rattle.pyplaces.proofs.Expressions.Turns.{joins_is, joins_turn, chain_facts, chain_ended, compare_ended}
-use Rattle.pyparse_expr.proofs.Recorders.Made.{StoodBehind, stood_behind}
+use Rattle.pyparse_expr.proofs.Recorders.Made.{StoodAfter, stood_after}
 use Rattle.pyparse_reads.proofs.Callers.Looks.{none_first, no_word, some_first}
 
 -- ---- Sides of `and` and `or`: how far the loop has come.
@@ -101,18 +101,18 @@ module _ {S : Type 0} {after : S → Stretch → S} (ts : List given.Terminal) (
 
   pub chain_placed : {u v w : S} (left : Read) (first items : Items) (k at room : ℕ) (ps : List Stretch) (z : Result Read Stop)
       → map tree_of first.exprs.items ≡ tree_of left.expr.value ∷ [] → first.next ≡ left.next
-      → Some (precedence.Joins o) ≡ first_is precedence.behind (seen ts left.next) → k ≤ rank (chain_level o)
+      → Some (precedence.Joins o) ≡ first_is precedence.following (seen ts left.next) → k ≤ rank (chain_level o)
       → Standing k (seen ts at) at (tree_of left.expr.value) (seen ts left.next) left.next ps → LinksPlaced after ts o first items u v
       → w ≡ after v (stretch at items.next) → Makes room (Trees.BoolOp o (exprs (map tree_of items.exprs.items))) items.next z
-      → IfOk z (StoodBehind after ts k (seen ts at) at ps u w)
+      → IfOk z (StoodAfter after ts k (seen ts at) at ps u w)
   chain_placed {u = u} {w = w} left first items k at room ps z t n s b p h c m =
-      let y = some_first precedence.behind (precedence.Joins o) ts first.next (subst (λ j. Some (precedence.Joins o) ≡ first_is
-      precedence.behind (seen ts j)) (sym n) s) in
+      let y = some_first precedence.following (precedence.Joins o) ts first.next (subst (λ j. Some (precedence.Joins o) ≡ first_is
+      precedence.following (seen ts j)) (sym n) s) in
       let word : seen ts first.next ≡ Word (chain_word o) ∷ seen ts (first.next + 1) =
       y.1 ∙ ap (λ x. x ∷ seen ts (first.next + 1)) (joins_is y.0 o y.2) in
       let front = subst (λ j. Standing k (seen ts at) at (tree_of left.expr.value) (seen ts j) j ps) (sym n) p in
       let trees : map tree_of items.exprs.items ≡ tree_of left.expr.value ∷ h.sides = h.trees ∙ ap (λ es. es ++ h.sides) t in
-      stood_behind after u w ts ps k (seen ts at) at room (Trees.BoolOp o (exprs (map tree_of items.exprs.items))) items.next z m
+      stood_after after u w ts ps k (seen ts at) at room (Trees.BoolOp o (exprs (map tree_of items.exprs.items))) items.next z m
       (subst (λ es. Standing k (seen ts at) at (Trees.BoolOp o (exprs es)) (seen ts items.next) items.next
       (ps ++ (h.places ++ (stretch at items.next ∷ [])))) (sym trees)
       (standing_chain front word b (links_some h.links word) h.ended)) (records_more h.records (records_node c))
@@ -144,7 +144,7 @@ here_sign ts at o c q h = subst (λ p. SignAt ts at p) q h
 pub past_signs : (ts : List given.Terminal) (at : ℕ) (o : Option Compared) → o ≡ None → SignAt ts at o → Unsigned (seen ts at)
 past_signs ts at o q h = subst (λ p. SignAt ts at p) q h
 
-compares_turn : (r : List Terminal) → Some precedence.Compares ≡ first_is precedence.behind r → turn_of r ≡ 13
+compares_turn : (r : List Terminal) → Some precedence.Compares ≡ first_is precedence.following r → turn_of r ≡ 13
 compares_turn [] h = absurd (cc)
 compares_turn (t ∷ r) h = ap (λ o. on_some o precedence.infix_rank 0) (sym h)
 
@@ -153,7 +153,7 @@ unsigned_ended r n h = compare_ended r (none_first comparison n.no_sign) (none_f
     (none_first (is_word Key.Is) n.no_is) h
 
 compares_some : {i r : List Terminal} {at m : ℕ} {os : List Comparison} {es : List Expr} {ps : List Stretch} → Sides i at os es r m ps
-    → Some precedence.Compares ≡ first_is precedence.behind i → Unsigned r → PlacedCompares i at os es r m ps
+    → Some precedence.Compares ≡ first_is precedence.following i → Unsigned r → PlacedCompares i at os es r m ps
 compares_some {i} no_sign h n = absurd (omega (arith, unsigned_ended i n (omega (arith, compares_turn i h)), compares_turn i h))
 compares_some (signs c) h n = c
 
@@ -167,7 +167,7 @@ pub record SidesRead {S : Type 0} (after : S → Stretch → S) (ts : List given
 
 module _ {S : Type 0} {after : S → Stretch → S} (ts : List given.Terminal) (n : ℕ) where
   pub sides_read : {u : S} (ops : List Comparison) (items : Items) → ops ≡ [] → map tree_of items.exprs.items ≡ [] → items.next ≡ n
-      → Some precedence.Compares ≡ first_is precedence.behind (seen ts n) → SidesRead after ts n ops items u u
+      → Some precedence.Compares ≡ first_is precedence.following (seen ts n) → SidesRead after ts n ops items u u
   sides_read ops items o t q s = record {
     places = [];
     grows = subst (λ m. SidesGrow (seen ts n) n ops (map tree_of items.exprs.items) (seen ts m) m []) (sym q)
@@ -199,11 +199,11 @@ module _ {S : Type 0} {after : S → Stretch → S} (ts : List given.Terminal) (
   pub compare_placed : {u v w : S} (e : Expr) (ops : List Comparison) (items : Items) (k at room : ℕ)
       (ps : List Stretch) (z : Result Read Stop)
       → SidesRead after ts n ops items u v → Unsigned (seen ts items.next)
-      → Some precedence.Compares ≡ first_is precedence.behind (seen ts n) → k ≤ 13 → Standing k (seen ts at) at e (seen ts n) n ps
+      → Some precedence.Compares ≡ first_is precedence.following (seen ts n) → k ≤ 13 → Standing k (seen ts at) at e (seen ts n) n ps
       → w ≡ after v (stretch at items.next) → Makes room (Trees.Compare e ops (exprs (map tree_of items.exprs.items))) items.next z
-      → IfOk z (StoodBehind after ts k (seen ts at) at ps u w)
+      → IfOk z (StoodAfter after ts k (seen ts at) at ps u w)
   compare_placed {u = u} {w = w} e ops items k at room ps z h f s b p c m =
-      let y = some_first precedence.behind precedence.Compares ts n s in
-      stood_behind after u w ts ps k (seen ts at) at room (Trees.Compare e ops (exprs (map tree_of items.exprs.items))) items.next z m
+      let y = some_first precedence.following precedence.Compares ts n s in
+      stood_after after u w ts ps k (seen ts at) at room (Trees.Compare e ops (exprs (map tree_of items.exprs.items))) items.next z m
       (standing_compare p y.1 y.2 b (compares_some (sides_end h.grows) s f) (unsigned_ended (seen ts items.next) f h.most))
       (records_more h.records (records_node c))

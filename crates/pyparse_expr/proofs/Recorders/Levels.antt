@@ -30,7 +30,7 @@ use Rattle.pyplaces.proofs.Expressions.Readings.{elem_named}
 use Rattle.pyparse_expr.proofs.Recorders.Made.{Whole, whole_made}
 use Rattle.pyparse_reads.proofs.Callers.Looks.{no_op}
 
--- ---- Yield forms: behind the word, with the place of the whole.
+-- ---- Yield forms: after the word, with the place of the whole.
 abbrev pub Yielded : {S : Type 0} → (S → Stretch → S) → List given.Terminal → (begin at : ℕ) → S → S → Read → Type 0
 Yielded after ts begin at u v r = (ps : List Stretch) × PlacedYields (seen ts at) at (tree_of r.expr.value) (seen ts r.next) r.next ps ×
     Records after u (ps ++ (stretch begin r.next ∷ [])) v
@@ -105,11 +105,11 @@ module _ {S : Type 0} (after : S → Stretch → S) (u v : S) (ts : List given.T
       (records_more (records_node g) (records_more k (records_node h)))
 
 -- an element without a star that stands alone
-pub subject_one : {i r : List Terminal} {at behind : ℕ} {e : Expr} {ps : List Stretch} → Placed level.Elem i at e r behind ps
-    → None ≡ first_is (is_op Star) i → Placed level.Subject i at e r behind ps
+pub subject_one : {i r : List Terminal} {at following : ℕ} {e : Expr} {ps : List Stretch} → Placed level.Elem i at e r following ps
+    → None ≡ first_is (is_op Star) i → Placed level.Subject i at e r following ps
 subject_one p n = placed_next (elem_named p (no_op Star n))
 
--- ---- A conditional: the body's places are set aside, and come behind the test's.
+-- ---- A conditional: the body's places are set aside, and come after the test's.
 
 module _ {S : Type 0} (after beside : S → Stretch → S) where
   still : (count : S → ℕ) → ((w : S) (s : Stretch) → count (after w s) ≡ count w) → (w : S) (ps : List Stretch)
@@ -129,7 +129,7 @@ module _ {S : Type 0} (after beside : S → Stretch → S) where
   beside_all apart w ps (s ∷ qs) = beside_all apart (after w s) ps qs ∙ ap (λ y. afters after y qs) (beside_one apart w ps s)
 
   -- set aside, some more recorded, and taken back
-  pub moved_behind : {w a b c d : S} {ps qs : List Stretch} {before kept : ℕ} (recorded_count aside_count : S → ℕ)
+  pub moved_after : {w a b c d : S} {ps qs : List Stretch} {before kept : ℕ} (recorded_count aside_count : S → ℕ)
       → ((w : S) (s t : Stretch) → beside (after w s) t ≡ after (beside w t) s)
       → ((w : S) (s : Stretch) → aside_count (after w s) ≡ aside_count w) → Records after w ps a → before ≡ recorded_count w
       → kept ≡ aside_count a
@@ -137,14 +137,14 @@ module _ {S : Type 0} (after beside : S → Stretch → S) where
       → Records after b qs c
       → ((x : S) (xs : List Stretch) → c ≡ afters beside x xs → kept ≡ aside_count x → d ≡ afters after x xs)
       → Records after w (qs ++ ps) d
-  moved_behind {w} {a} {b} {c} {d} {ps} {qs} {kept = kept} recorded_count aside_count apart f h n k aside g back =
+  moved_after {w} {a} {b} {c} {d} {ps} {qs} {kept = kept} recorded_count aside_count apart f h n k aside g back =
       let set : b ≡ afters beside w ps = aside w ps h.is n in
       let read : c ≡ afters beside (afters after w qs) ps = g.is ∙ ap (λ y. afters after y qs) set ∙ sym (beside_all apart w ps qs) in
       let same : kept ≡ aside_count (afters after w qs) =
       k ∙ ap aside_count h.is ∙ still aside_count f w ps ∙ sym (still aside_count f w qs) in
       let front : Records after w qs (afters after w qs) = record { is = refl } in
-      let behind : Records after (afters after w qs) ps d = record { is = back (afters after w qs) ps read same } in
-      records_more front behind
+      let following : Records after (afters after w qs) ps d = record { is = back (afters after w qs) ps read same } in
+      records_more front following
 
 module _ {S : Type 0} (after : S → Stretch → S) (w v : S) (ts : List given.Terminal) where
   pub if_else_placed : {x y : S} {ps qs ws : List Stretch} (at room : ℕ) (test body orelse : Read) (z : Result Read Stop)

@@ -31,7 +31,7 @@ use Rattle.pyplaces.proofs.Answers.{read_as, standing_as, records_node, records_
 use Rattle.pyplaces.proofs.Expressions.Climbing.{standing_primary, standing_awaits, standing_signed, standing_binary, standing_power}
 use Rattle.pyplaces.proofs.Expressions.Climbing.{standing_end}
 use Rattle.pyplaces.proofs.Expressions.Turns.{ended, infix_hit, prefix_hit}
-use Rattle.pyparse_expr.proofs.Recorders.Made.{Whole, Stood, StoodBehind, at_next, stood_made}
+use Rattle.pyparse_expr.proofs.Recorders.Made.{Whole, Stood, StoodAfter, at_next, stood_made}
 use Rattle.pyparse_reads.proofs.Callers.Looks.{none_first, some_first}
 
 -- ---- The loop over operators.
@@ -121,21 +121,21 @@ module _ {S : Type 0} (after : S → Stretch → S) (u v : S) (ts : List given.T
 
   -- of a level, and the power
   pub binary_stood : (k at : ℕ) (left : Read) (l m : Level) (o : Operator) (ps : List Stretch) (z : Result Read Stop) → m ≡ below l
-      → Some (precedence.Left l o) ≡ first_is precedence.behind (seen ts left.next) → k ≤ rank l
+      → Some (precedence.Left l o) ≡ first_is precedence.following (seen ts left.next) → k ≤ rank l
       → Standing k (seen ts at) at (tree_of left.expr.value) (seen ts left.next) left.next ps
-      → IfOk z (λ r. BinaryPlaced after ts m left o at r u v) → IfOk z (StoodBehind after ts k (seen ts at) at ps u v)
+      → IfOk z (λ r. BinaryPlaced after ts m left o at r u v) → IfOk z (StoodAfter after ts k (seen ts at) at ps u v)
   binary_stood k at left l m o ps (Ok r) q s b p h =
-      let w = some_first precedence.behind (precedence.Left l o) ts left.next s in
+      let w = some_first precedence.following (precedence.Left l o) ts left.next s in
       let y = subst (λ j. Placed j (seen ts (left.next + 1)) (left.next + 1) h.right (seen ts r.next) r.next h.places) q h.placed in
       let f = subst (λ j. Ended (rank j) (seen ts r.next)) q h.ended in
       (h.places ++ (stretch at r.next ∷ []), standing_as (seen ts) h.tree refl (standing_binary p w.1 w.2 b y f), h.records)
   binary_stood k at left l m o ps (Err e) q s b p h = tt
 
   pub power_stood : (k at : ℕ) (left : Read) (ps : List Stretch) (z : Result Read Stop)
-      → Some precedence.Raise ≡ first_is precedence.behind (seen ts left.next) → k ≤ 21
+      → Some precedence.Raise ≡ first_is precedence.following (seen ts left.next) → k ≤ 21
       → Standing k (seen ts at) at (tree_of left.expr.value) (seen ts left.next) left.next ps
-      → IfOk z (λ r. BinaryPlaced after ts level.Factor left Bin.Pow at r u v) → IfOk z (StoodBehind after ts k (seen ts at) at ps u v)
+      → IfOk z (λ r. BinaryPlaced after ts level.Factor left Bin.Pow at r u v) → IfOk z (StoodAfter after ts k (seen ts at) at ps u v)
   power_stood k at left ps (Ok r) s b p h =
-      let w = some_first precedence.behind precedence.Raise ts left.next s in
+      let w = some_first precedence.following precedence.Raise ts left.next s in
       (h.places ++ (stretch at r.next ∷ []), standing_as (seen ts) h.tree refl (standing_power p w.1 w.2 b h.placed h.ended), h.records)
   power_stood k at left ps (Err e) s b p h = tt

@@ -24,7 +24,7 @@ abbrev pub ReadPlaced : {S : Type 0} (after : S → Stretch → S) (ts : List gi
 ReadPlaced after ts l at old new r =
     (ps : List Stretch) × Placed l (seen ts at) at (tree_of r.expr.value) (seen ts r.next) r.next ps × Records after old ps new
 
--- the same, behind what was read already with such places
+-- the same, after what was read already with such places
 abbrev pub LeftPlaced : {S : Type 0} (after : S → Stretch → S) (ts : List given.Terminal) (l : Level) (i : List Terminal) (at : ℕ)
     (ps : List Stretch) (old new : S) → Read → Type 0
 LeftPlaced after ts l i at ps old new r =
@@ -44,9 +44,9 @@ pub made_whole : {S : Type 0} {after : S → Stretch → S} {l : Level} {i : Lis
 made_whole {ps = ps} ts room n (Ok r) m q p h = (ps, placed_as (seen ts) (m.tree ∙ q) m.next_is p, h)
 made_whole ts room n (Err e) m q p h = tt
 
--- a part that was recorded, and the whole behind it
-pub behind_left : {S : Type 0} {after : S → Stretch → S} {ps : List Stretch} {u v : S} (ts : List given.Terminal) (l : Level)
+-- a part that was recorded, and the whole after it
+pub after_left : {S : Type 0} {after : S → Stretch → S} {ps : List Stretch} {u v : S} (ts : List given.Terminal) (l : Level)
     (i : List Terminal) (at : ℕ) (w : S) (z : Result Read Stop) → Records after u ps v → IfOk z (λ r. LeftPlaced after ts l i at ps v w r)
     → IfOk z (λ r. (qs : List Stretch) × Placed l i at (tree_of r.expr.value) (seen ts r.next) r.next qs × Records after u qs w)
-behind_left {ps = ps} ts l i at w (Ok r) h p = (ps ++ p.0, p.1, records_more h p.2)
-behind_left ts l i at w (Err e) h p = tt
+after_left {ps = ps} ts l i at w (Ok r) h p = (ps ++ p.0, p.1, records_more h p.2)
+after_left ts l i at w (Err e) h p = tt

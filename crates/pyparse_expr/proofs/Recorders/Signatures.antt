@@ -1,4 +1,4 @@
--- Parameters, recorded: the defaults are set aside in two runs, and taken back behind the others.
+-- Parameters, recorded: the defaults are set aside in two runs, and taken back after the others.
 --
 -- Carries: signatures.rt. On: Asides, Listings, Parameters, Levels, Selections of pyplaces; Formals.
 use Rattle.std.proofs.Common.{◌≡◌, refl, sym, ap, subst, ◌∙◌, arith, ℕ, ◌+◌, List, [], ◌∷◌, ◌++◌, map, drop, drop-drop, Option, Some, None}
@@ -34,7 +34,7 @@ use Rattle.pyparse_nodes.specs.FormalStates.{state_of, entry_of}
 use Rattle.pyparse_nodes.specs.Views.{Stands, seen, first_is}
 use Rattle.pyparse_expr.specs.declared.signatures.ReadParameter.{ReadParameter}
 use Rattle.pyparse_expr.specs.declared.signatures.Signature.{Signature}
-use Rattle.pyparse_expr.specs.Inner.PlacedSignatures.{defaults_behind, Recorded, ParameterPlaced, DefaultsBack, SignaturePlaced}
+use Rattle.pyparse_expr.specs.Inner.PlacedSignatures.{defaults_after, Recorded, ParameterPlaced, DefaultsBack, SignaturePlaced}
 use Rattle.pyparse_expr.specs.Inner.Signatures.{MakesLambda}
 use Rattle.pyparse_expr.proofs.FormalParameters.Formals.{arranged_steps}
 use Rattle.pyplaces.specs.EntryPlaces as E
@@ -54,7 +54,7 @@ use Rattle.pyplaces.proofs.Expressions.Parameters.{placed_gathered, placed_doubl
 use Rattle.pyplaces.proofs.Loops.{Grows, grows_start}
 use Rattle.pyplaces.proofs.Selections.{Unstarred, none, plain, slash, Starred, with_one, with_none, parameters_append, collected_append}
 use Rattle.pyplaces.proofs.Selections.{defaults_before, keyword_defaults_before, unstarred_plain, unstarred_slash, starred_bare}
-use Rattle.pyplaces.proofs.Selections.{starred_gathered, starred_more, keyword_defaults_behind}
+use Rattle.pyplaces.proofs.Selections.{starred_gathered, starred_more, keyword_defaults_after}
 use Rattle.pyplaces.proofs.Selections as Selections
 use Rattle.pyparse_reads.proofs.Callers.Looks.{name_is}
 
@@ -70,7 +70,7 @@ name_front ts n f h = go (seen ts n) h (drop-drop 1 n (map terminal ts))
     go [] h q = absurd (cc)
     go (t ∷ r) h q = let w = name_is t f (sym h) in (w.0, ap (λ z. z ∷ r) w.1 ∙ ap (λ z. Ident w.0 ∷ z) q, w.2)
 
--- ---- What stands behind a sign.
+-- ---- What stands after a sign.
 
 module _ (ts : List given.Terminal) where
   suffix_as : {so : Option Exact} {i : List Terminal} {at n k : ℕ} {a b : OptionalExpr} {ps : List Stretch} → b ≡ a → k ≡ n
@@ -140,13 +140,13 @@ pairs_at n (G.star_annotation p) = gathered_pair
 pairs_at n (G.double_parameter a) = collected_pair
 pairs_at n _ = tt
 
-pairs : {b : Bool} {i r : List Terminal} {at behind : ℕ} {e : Entry} {p : EntryPlaces} → PlacedPiece (Parameter b) i at e r behind p
+pairs : {b : Bool} {i r : List Terminal} {at following : ℕ} {e : Entry} {p : EntryPlaces} → PlacedPiece (Parameter b) i at e r following p
     → Pairs e p
 pairs {at = at} {e = e} d = subst (λ z. Pairs e z) d.places_are (pairs_at at d.derived)
 
-piece_as : {b : Bool} {i r : List Terminal} {at behind : ℕ} {e f : Entry} {p : EntryPlaces} → f ≡ e
-    → PlacedPiece (Parameter b) i at e r behind p → PlacedPiece (Parameter b) i at f r behind p
-piece_as {b} {i} {r} {at} {behind} {p = p} h d = subst (λ z. PlacedPiece (Parameter b) i at z r behind p) (sym h) d
+piece_as : {b : Bool} {i r : List Terminal} {at following : ℕ} {e f : Entry} {p : EntryPlaces} → f ≡ e
+    → PlacedPiece (Parameter b) i at e r following p → PlacedPiece (Parameter b) i at f r following p
+piece_as {b} {i} {r} {at} {following} {p = p} h d = subst (λ z. PlacedPiece (Parameter b) i at z r following p) (sym h) d
 
 -- its arg
 arg_as : {x y : List ℕ} {a b : OptionalExpr} {c : Arg} → c ≡ arg y b → x ≡ y → a ≡ b → c ≡ arg x a
@@ -249,13 +249,13 @@ module _ {S : Type 0} (after beside : S → Stretch → S) (count : S → ℕ) w
   abbrev pub Counts : List EntryPlaces → ℕ → S → Type 0
   Counts fs n u = n ≡ count (afters beside u (E.defaults fs))
 
-  -- in front of the star, behind it, and behind a `**`
+  -- in front of the star, after it, and after a `**`
   pub record Before (fs : List EntryPlaces) (n : ℕ) (u v : S) : Type 0 where
     pub unstarred : Unstarred fs
     pub counts : Counts fs n u
     pub kept : Kept after beside u (E.parameters fs) (E.defaults fs) v
 
-  pub record Behind (fs : List EntryPlaces) (n : ℕ) (u v : S) : Type 0 where
+  pub record Following (fs : List EntryPlaces) (n : ℕ) (u v : S) : Type 0 where
     pub starred : Starred fs
     pub uncollected : E.collected fs ≡ []
     pub counts : Counts fs n u
@@ -268,8 +268,8 @@ module _ {S : Type 0} (after beside : S → Stretch → S) (count : S → ℕ) w
   abbrev pub Runs : Stage → List EntryPlaces → ℕ → S → S → Type 0
   Runs stage.Open fs n u v = Before fs n u v
   Runs stage.Closed fs n u v = Before fs n u v
-  Runs stage.Lone fs n u v = Behind fs n u v
-  Runs stage.Starred fs n u v = Behind fs n u v
+  Runs stage.Lone fs n u v = Following fs n u v
+  Runs stage.Starred fs n u v = Following fs n u v
   Runs stage.Ended fs n u v = Last fs n u v
   Runs stage.Wrong fs n u v = Unit {0}
 
@@ -310,7 +310,7 @@ module _ {S : Type 0} {after beside : S → Stretch → S} {count : S → ℕ} (
       record { unstarred = unstarred_slash b.unstarred; counts = kept_count count apart still l; kept = l }
 
   before_bare : {fs : List EntryPlaces} {n : ℕ} {u v w : S} → Before after beside count fs n u v → w ≡ v
-      → Behind after beside count (fs ++ (E.Bare ∷ [])) n u w
+      → Following after beside count (fs ++ (E.Bare ∷ [])) n u w
   before_bare {fs} {n} {u} {w = w} b h =
       let d = with_none (E.defaults fs) (defaults_before (E.Bare ∷ []) b.unstarred) in
       let k = subst (λ z. Kept after beside u (E.parameters fs) (E.defaults fs) z) (sym h) b.kept in record {
@@ -323,7 +323,7 @@ module _ {S : Type 0} {after beside : S → Stretch → S} {count : S → ℕ} (
       }
 
   before_gathered : {fs : List EntryPlaces} {n : ℕ} {u v w : S} {ps : List Stretch} → Before after beside count fs n u v
-      → Records after v ps w → Behind after beside count (fs ++ (E.Gathered ps ∷ [])) n u w
+      → Records after v ps w → Following after beside count (fs ++ (E.Gathered ps ∷ [])) n u w
   before_gathered {fs} {n} {u} {ps = ps} b r =
       let g = E.Gathered ps ∷ [] in
       let d = with_none (E.defaults fs) (defaults_before g b.unstarred) in record {
@@ -336,12 +336,12 @@ module _ {S : Type 0} {after beside : S → Stretch → S} {count : S → ℕ} (
             (kept_more apart b.kept (kept_records r));
       }
 
-  behind_plain : {fs : List EntryPlaces} {n : ℕ} {u v w : S} {ps ds : List Stretch} → Behind after beside count fs n u v
-      → Kept after beside v ps ds w → Behind after beside count (fs ++ (E.Plain ps ds ∷ [])) n u w
-  behind_plain {fs} {n} {u} {ps = ps} {ds = ds} b k =
+  following_plain : {fs : List EntryPlaces} {n : ℕ} {u v w : S} {ps ds : List Stretch} → Following after beside count fs n u v
+      → Kept after beside v ps ds w → Following after beside count (fs ++ (E.Plain ps ds ∷ [])) n u w
+  following_plain {fs} {n} {u} {ps = ps} {ds = ds} b k =
       let g = E.Plain ps ds ∷ [] in
-      let d = Selections.defaults_behind g b.starred in
-      let e = with_one (E.keyword_defaults fs) ds (keyword_defaults_behind g b.starred) in record {
+      let d = Selections.defaults_after g b.starred in
+      let e = with_one (E.keyword_defaults fs) ds (keyword_defaults_after g b.starred) in record {
         starred = starred_more g b.starred;
         uncollected = with_none (E.collected fs) (collected_append fs g) ∙ b.uncollected;
         counts = counts_as fs (fs ++ g) n u d b.counts;
@@ -370,14 +370,14 @@ module _ {S : Type 0} {after beside : S → Stretch → S} {count : S → ℕ} (
             (d ∙ sym (append-nil (E.defaults fs))) (kept_more apart k (kept_records r));
       }
 
-  behind_collected : {fs : List EntryPlaces} {n : ℕ} {u v m w : S} {ps : List Stretch} → Behind after beside count fs n u v
+  after_collected : {fs : List EntryPlaces} {n : ℕ} {u v m w : S} {ps : List Stretch} → Following after beside count fs n u v
       → Moves after beside count n v m → Records after m ps w → Last after beside count (fs ++ (E.Collected ps ∷ [])) n u w
-  behind_collected {fs} {n} {u} {ps = ps} b t r =
+  after_collected {fs} {n} {u} {ps = ps} b t r =
       let g = E.Collected ps ∷ [] in
-      let d = Selections.defaults_behind g b.starred in
+      let d = Selections.defaults_after g b.starred in
       let k = kept_last (E.parameters fs) (E.defaults fs) (E.keyword_defaults fs) count apart still b.kept b.counts t in
       let c : E.collected (fs ++ g) ≡ ps = collected_append fs g ∙ (ap (λ z. z ++ (ps ++ [])) b.uncollected ∙ append-nil ps) in
-      let e = with_none (E.keyword_defaults fs) (keyword_defaults_behind g b.starred) in
+      let e = with_none (E.keyword_defaults fs) (keyword_defaults_after g b.starred) in
       record {
         counts = counts_as fs (fs ++ g) n u d b.counts;
         kept = kept_as
@@ -390,7 +390,7 @@ module _ {S : Type 0} {after beside : S → Stretch → S} {count : S → ℕ} (
   -- one parameter more, at each stage
   turn : {e : Entry} {p : EntryPlaces} (fs : List EntryPlaces) (n : ℕ) (u v w : S) (s : State) → Pairs e p
       → Runs after beside count (stage_of s) fs n u v → Recorded after beside count n p v w
-      → Runs after beside count (stage_of (step s e)) (fs ++ (p ∷ [])) (defaults_behind (stage_of (step s e)) n (count w)) u w
+      → Runs after beside count (stage_of (step s e)) (fs ++ (p ∷ [])) (defaults_after (stage_of (step s e)) n (count w)) u w
   turn fs n u v w (state stage.Open true ps qs v1 ks kds k ds) (plain_pair {d = absent}) r f = tt
   turn fs n u v w (state stage.Open true ps qs v1 ks kds k ds) (plain_pair {d = present x}) r f = before_plain r f
   turn fs n u v w (state stage.Open false ps qs v1 ks kds k ds) (plain_pair {d = absent}) r f = before_plain r f
@@ -399,8 +399,8 @@ module _ {S : Type 0} {after beside : S → Stretch → S} {count : S → ℕ} (
   turn fs n u v w (state stage.Closed true ps qs v1 ks kds k ds) (plain_pair {d = present x}) r f = before_plain r f
   turn fs n u v w (state stage.Closed false ps qs v1 ks kds k ds) (plain_pair {d = absent}) r f = before_plain r f
   turn fs n u v w (state stage.Closed false ps qs v1 ks kds k ds) (plain_pair {d = present x}) r f = before_plain r f
-  turn fs n u v w (state stage.Lone b ps qs v1 ks kds k ds) plain_pair r f = behind_plain r f
-  turn fs n u v w (state stage.Starred b ps qs v1 ks kds k ds) plain_pair r f = behind_plain r f
+  turn fs n u v w (state stage.Lone b ps qs v1 ks kds k ds) plain_pair r f = following_plain r f
+  turn fs n u v w (state stage.Starred b ps qs v1 ks kds k ds) plain_pair r f = following_plain r f
   turn fs n u v w (state stage.Ended b ps qs v1 ks kds k ds) plain_pair r f = tt
   turn fs n u v w (state stage.Wrong b ps qs v1 ks kds k ds) plain_pair r f = tt
   turn fs n u v w (state stage.Open b ps [] v1 ks kds k ds) slash_pair r f = tt
@@ -425,7 +425,7 @@ module _ {S : Type 0} {after beside : S → Stretch → S} {count : S → ℕ} (
   turn fs n u v w (state stage.Open b ps qs v1 ks kds k ds) collected_pair r f = before_collected r f.1 f.2
   turn fs n u v w (state stage.Closed b ps qs v1 ks kds k ds) collected_pair r f = before_collected r f.1 f.2
   turn fs n u v w (state stage.Lone b ps qs v1 ks kds k ds) collected_pair r f = tt
-  turn fs n u v w (state stage.Starred b ps qs v1 ks kds k ds) collected_pair r f = behind_collected r f.1 f.2
+  turn fs n u v w (state stage.Starred b ps qs v1 ks kds k ds) collected_pair r f = after_collected r f.1 f.2
   turn fs n u v w (state stage.Ended b ps qs v1 ks kds k ds) collected_pair r f = tt
   turn fs n u v w (state stage.Wrong b ps qs v1 ks kds k ds) collected_pair r f = tt
 
@@ -443,7 +443,7 @@ module _ {S : Type 0} {after beside : S → Stretch → S} {count : S → ℕ} (
           (kept_last (E.parameters fs) (E.defaults fs) [] count apart still
           (kept_as refl (append-nil (E.defaults fs)) b.kept) b.counts t)
 
-      starred : Behind after beside count fs n u v
+      starred : Following after beside count fs n u v
           → Kept after beside u (E.parameters fs ++ (E.keyword_defaults fs ++ E.collected fs)) (E.defaults fs) m
       starred b = kept_as
           (ap (λ z. E.parameters fs ++ z) (ap (λ z. E.keyword_defaults fs ++ z) b.uncollected ∙ append-nil (E.keyword_defaults fs))) refl
@@ -495,19 +495,19 @@ module _ {S : Type 0} {after beside : S → Stretch → S} {count : S → ℕ} (
     more_runs : {p : EntryPlaces} (u v w : S) (fs : List EntryPlaces) (n k : ℕ) (g : Formal) (es : List Entry) (e : Entry) → Pairs e p
         → state_of g ≡ steps start (es ++ (e ∷ []))
         → Runs after beside count (stage_of (steps start es)) fs n u v → Recorded after beside count n p v w
-        → k ≡ defaults_behind g.stage n (count w)
+        → k ≡ defaults_after g.stage n (count w)
         → Runs after beside count (stage_of (steps start (es ++ (e ∷ [])))) (fs ++ (p ∷ [])) k u w
     more_runs {p} u v w fs n k g es e x h r f q =
         let i = steps_one start es e in
-        let j : k ≡ defaults_behind (stage_of (step (steps start es) e)) n (count w) = q
-        ∙ ap (λ z. defaults_behind (stage_of z) n (count w)) (h ∙ i) in
+        let j : k ≡ defaults_after (stage_of (step (steps start es) e)) n (count w) = q
+        ∙ ap (λ z. defaults_after (stage_of z) n (count w)) (h ∙ i) in
         subst (λ z. Runs after beside count (stage_of z) (fs ++ (p ∷ [])) k u w) (sym i)
         (subst (λ z. Runs after beside count (stage_of (step (steps start es) e)) (fs ++ (p ∷ [])) z u w) (sym j)
         (turn fs n u v w (steps start es) x r f))
 
     module _ {u v w : S} {f : Formal} {next n k : ℕ} (c : SignatureGrows after beside count ts b at f next n u v) (o : ReadParameter)
         (p : ParameterPlaced after beside count ts b next n o v w) (g : Formal) (h : state_of g ≡ step (state_of f) (entry_of o.parameter))
-        (q : k ≡ defaults_behind g.stage n (count w)) where
+        (q : k ≡ defaults_after g.stage n (count w)) where
       state_is : state_of g ≡ steps start (c.entries ++ (entry_of o.parameter ∷ []))
       state_is = h ∙ ap (λ z. step z (entry_of o.parameter)) c.fold ∙ sym (steps_one start c.entries (entry_of o.parameter))
 

@@ -110,7 +110,7 @@ row_grows_as : {row : Stretch} {a b c d : List ℕ} {ss : List StringPart} {fs :
 row_grows_as {row} {a} {b} {c} {d} {ss} {fs} {ds} p q g =
     subst (λ z. RowGrows row z ss fs d ds) (sym p) (subst (λ z. RowGrows row a ss fs z ds) (sym q) g)
 
--- ---- The text behind the last field.
+-- ---- The text after the last field.
 
 no_text : (s : List ℕ) (b : Bool) → b ≡ (length s == 0) → b ≡ true → s ≡ []
 no_text [] b q f = refl
@@ -131,7 +131,7 @@ module _ {S : Type 0} {after : S → Stretch → S} where
   text_some row [] s b q f e h = absurd (some_text s b q f e)
   text_some row (c ∷ t) s b q f e h = records_node h
 
--- ---- Parts, one behind the other.
+-- ---- Parts, one after the other.
 
 grows_as : {L : List Terminal → ℕ → List StringPart → List Terminal → ℕ → List (List Stretch) → Type 0} {i : List Terminal} {at n k : ℕ}
     {ss : List StringPart} {fs : List (List Stretch)} (ts : List given.Terminal) → k ≡ n → Grows L i at ss (seen ts n) n fs
@@ -279,14 +279,14 @@ module _ {S : Type 0} {after : S → Stretch → S} (ts : List given.Terminal) (
 
 -- the same, with the row's end as it was sought
 pub joined_placed : {S : Type 0} {after : S → Stretch → S} {y : S} (v w x : S) (ts : List given.Terminal) (u : Bool)
-    (first behind : ℕ) (b f j : JoinedValues) (r : Read)
-    → ((k : ℕ) → Alike after (stretch k behind) (stretch k (b.next + row_length 1 (seen ts b.next))))
-    → ((row : Stretch) → Alike after (stretch first behind) row → FormattedPlaced after ts u row b f v w)
-    → ((row : Stretch) → Alike after (stretch first behind) row → PartsPlaced after (PlacedLiterals u row) ts u row f j w x)
+    (first following : ℕ) (b f j : JoinedValues) (r : Read)
+    → ((k : ℕ) → Alike after (stretch k following) (stretch k (b.next + row_length 1 (seen ts b.next))))
+    → ((row : Stretch) → Alike after (stretch first following) row → FormattedPlaced after ts u row b f v w)
+    → ((row : Stretch) → Alike after (stretch first following) row → PartsPlaced after (PlacedLiterals u row) ts u row f j w x)
     → row_length 0 (seen ts j.next) ≡ 0
-    → ((row : Stretch) → Alike after (stretch first behind) row → Records after x (text_places row j.text ++ (row ∷ [])) y)
+    → ((row : Stretch) → Alike after (stretch first following) row → Records after x (text_places row j.text ++ (row ∷ [])) y)
     → IsNode (Trees.JoinedStr (exprs (ended u (state_of j)))) j.next r → JoinedPlaced after ts u (stretch first r.next) b r v y
-joined_placed {after = after} {y = y} v w x ts u first behind b f j r l p q h t k =
+joined_placed {after = after} {y = y} v w x ts u first following b f j r l p q h t k =
     let row = stretch first (b.next + row_length 1 (seen ts b.next)) in
     let a = l first in
     let e = joined_end ts u row b f j (p row a) (q row a) h in
@@ -368,7 +368,7 @@ front_first : (f : List Terminal) (t : Terminal) (r s : List Terminal) → t ∷
 front_first [] t r s h w = absurd (omega (arith, w))
 front_first (x ∷ f) t r s h w = (f, cc, cc)
 
--- and has the f-string that stands behind literals, if it is longer than those
+-- and has the f-string that stands after literals, if it is longer than those
 front_formatted : (vs : List Value) (f r s : List Terminal) → map Literal vs ++ (FormattedBegin ∷ s) ≡ f ++ r → length vs < length f
     → has_formatted f ≡ true
 front_formatted [] f r s h w = let g = front_first f FormattedBegin r s h w in ap has_formatted g.1
@@ -413,7 +413,7 @@ run_front acc (t ∷ r) vs s h = ([], other_value acc vs (t ∷ r) s h ∙ sym (
     other_rest : (a b : List Value) (i j : List Terminal) → Found a i ≡ Found b j → i ≡ j
     other_rest a b i j h = cc
 
--- the literals behind a first one, and where they end
+-- the literals after a first one, and where they end
 record RunAt (ts : List given.Terminal) (v w : Value) (at n : ℕ) : Type 0 where
   values : List Value
   is : joined v values ≡ Some w

@@ -20,19 +20,19 @@ use Rattle.pyplaces.specs.Placed.{Placed}
 use Rattle.pyplaces.specs.Recording.{Records}
 use Rattle.pyplaces.proofs.Answers.{records_node, records_more}
 use Rattle.pyplaces.proofs.Expressions.Primaries.{placed_attribute, placed_subscript}
-use Rattle.pyparse_expr.proofs.Recorders.Made.{WholeBehind, whole_behind}
+use Rattle.pyparse_expr.proofs.Recorders.Made.{WholeAfter, whole_after}
 use Rattle.pyparse_reads.proofs.Callers.Looks.{name_first}
 
 module _ {S : Type 0} (after : S → Stretch → S) (u v : S) (ts : List given.Terminal) (at room : ℕ) (e : Read) (ps : List Stretch) where
   pub attribute_placed : (f : List ℕ) (z : Result Read Stop) → Stands (Op Dot) ts e.next → Some f ≡ first_is name_in (seen ts (e.next + 1))
       → Makes room (Trees.Attribute (tree_of e.expr.value) f Load) (e.next + 1 + 1) z → v ≡ after u (stretch at (e.next + 1 + 1))
       → Placed Primary (seen ts at) at (tree_of e.expr.value) (seen ts e.next) e.next ps
-      → IfOk z (WholeBehind after ts Primary (seen ts at) at ps u v)
+      → IfOk z (WholeAfter after ts Primary (seen ts at) at ps u v)
   attribute_placed f z s n m h p =
       let w = name_first f ts (e.next + 1) n in
       let q = subst (λ x. Placed Primary (seen ts at) at (Trees.Attribute (tree_of e.expr.value) x Load) (seen ts (e.next + 1 + 1))
       (e.next + 1 + 1) (ps ++ (stretch at (e.next + 1 + 1) ∷ []))) w.2 (placed_attribute p s.is w.1) in
-      whole_behind after u v ts ps Primary (seen ts at) at room (Trees.Attribute (tree_of e.expr.value) f Load)
+      whole_after after u v ts ps Primary (seen ts at) at room (Trees.Attribute (tree_of e.expr.value) f Load)
       (e.next + 1 + 1) z m q (records_node h)
 
   pub subscript_placed : {w : S} {qs : List Stretch} (s : Read) (z : Result Read Stop) → Stands (Op LSqb) ts e.next
@@ -41,8 +41,8 @@ module _ {S : Type 0} (after : S → Stretch → S) (u v : S) (ts : List given.T
       → Makes room (Trees.Subscript (tree_of e.expr.value) (tree_of s.expr.value) Load) (s.next + 1) z
       → v ≡ after w (stretch at (s.next + 1))
       → Placed Primary (seen ts at) at (tree_of e.expr.value) (seen ts e.next) e.next ps
-      → IfOk z (WholeBehind after ts Primary (seen ts at) at ps u v)
+      → IfOk z (WholeAfter after ts Primary (seen ts at) at ps u v)
   subscript_placed s z o q k c m h p =
-      whole_behind after u v ts ps Primary (seen ts at) at room (Trees.Subscript (tree_of e.expr.value) (tree_of s.expr.value) Load)
+      whole_after after u v ts ps Primary (seen ts at) at room (Trees.Subscript (tree_of e.expr.value) (tree_of s.expr.value) Load)
       (s.next + 1) z m
       (placed_subscript p o.is q c.is) (records_more k (records_node h))

@@ -109,10 +109,10 @@ pub record ActualAt (ts : List Terminal) (room least : ℕ) (s : State) (x : Ans
   pub is : x ≡ Found entries (seen ts r.next)
   pub gives : state_of r ≡ steps s entries
 
--- the bracket behind the arguments
+-- the bracket after the arguments
 abbrev pub finished : Expr → State → List tokens.Terminal → Answer Expr
 finished f s r = on_first (is_op RPar) r (λ _ r1. made (outcome f s) r1) NoForm
 
--- what stands behind the first argument
+-- what stands after the first argument
 abbrev pub called_from : Depth → Expr → State → List tokens.Terminal → Answer Expr
 called_from d f s r = and_then (on_first (is_op Comma) r (λ _ r1. arguments_of d [] r1) (Found [] r)) (λ es r1. finished f (steps s es) r1)

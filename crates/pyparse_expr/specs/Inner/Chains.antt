@@ -15,7 +15,7 @@ use Rattle.pyparse_nodes.specs.Answers.{Failed}
 use Rattle.pyparse_expr.specs.Inner.Readings.{inner_reads}
 use Rattle.pyparse_nodes.specs.Views.{seen}
 
--- what stands behind `and` and `or`, and behind some that were read
+-- what stands after `and` and `or`, and after some that were read
 abbrev pub links_of : Depth → BoolOperator → List Expr → List tokens.Terminal → Answer (List Expr)
 links_of d o acc r = chain_loop (inner_reads d) o (length r) acc r
 

@@ -31,7 +31,7 @@ pub record NoStart (ts : List Terminal) (n : ℕ) : Type 0 where
   pub no_for : None ≡ first_is (is_word Key.For) (seen ts n)
   pub no_async : None ≡ first_is (is_word Key.Async) (seen ts n)
 
--- an `async` with no `for` behind it
+-- an `async` with no `for` after it
 pub record IsCutStart (ts : List Terminal) (n : ℕ) (s : Stop) : Type 0 where
   pub why : s ≡ stop.NoForm
   pub begun : Stands (Word Key.Async) ts n

@@ -31,10 +31,10 @@ item_reads d item.Elem r = inner_reads d level.Elem r
 item_reads d item.Part r = inner_reads d level.Part r
 item_reads d item.Target r = target_item (inner_reads d) r
 
--- items behind a comma
+-- items after a comma
 abbrev pub items_of : Depth → Item → List Entry → List Terminal → Answer (List Entry)
 items_of d i acc r = listing_loop (λ s. and_then (item_reads d i s) (λ e t. Found (Single e) t)) (item_of i) (length r) acc r
 
--- and those behind some that were read
+-- and those after some that were read
 abbrev pub more_at : Depth → Item → List Entry → List Terminal → Answer (List Entry)
 more_at d i acc r = on_first (is_op Comma) r (λ _ s. items_of d i acc s) (Found acc r)

@@ -41,6 +41,6 @@ pub record PairsAt (ts : List Terminal) (room least : ℕ) (x : Answer (List Ent
   pub low : r.height ≤ room
   pub is : x ≡ Found (pairs_of r) (seen ts r.next)
 
--- the pairs behind some that were read
+-- the pairs after some that were read
 abbrev pub more_pairs_at : Depth → List Entry → List tokens.Terminal → Answer (List Entry)
 more_pairs_at d acc r = on_first (is_op Comma) r (λ _ s. listing_of (inner_reads d) entries.Pair acc s) (Found acc r)

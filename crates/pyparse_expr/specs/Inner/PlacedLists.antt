@@ -22,7 +22,7 @@ use Rattle.pyparse_expr.specs.Inner.Pairs.{pair_of, pairs_of}
 
 -- ---- Expressions.
 
--- the items behind some that were read
+-- the items after some that were read
 pub record MorePlaced {S : Type 0} (after : S → Stretch → S) (ts : List Terminal) (j : Item) (items r : Items) (old new : S)
     : Type 0 where
   pub es : List Entry
@@ -31,7 +31,7 @@ pub record MorePlaced {S : Type 0} (after : S → Stretch → S) (ts : List Term
   pub others : Others j (seen ts items.next) items.next es (seen ts r.next) r.next places
   pub records : Records after old (E.singles places) new
 
--- those behind a first one
+-- those after a first one
 pub record OthersPlaced {S : Type 0} (after : S → Stretch → S) (ts : List Terminal) (j : Item) (first : Read) (r : Items)
     (old new : S) : Type 0 where
   pub es : List Entry
@@ -40,7 +40,7 @@ pub record OthersPlaced {S : Type 0} (after : S → Stretch → S) (ts : List Te
   pub others : Others j (seen ts first.next) first.next es (seen ts r.next) r.next places
   pub records : Records after old (E.singles places) new
 
--- a Tuple that begins with a first one, and those behind the comma
+-- a Tuple that begins with a first one, and those after the comma
 pub record TuplePlaced {S : Type 0} (after : S → Stretch → S) (ts : List Terminal) (j : Item) (first : Read) (at : ℕ) (r : Read)
     (old new : S) : Type 0 where
   pub es : List Entry
@@ -57,7 +57,7 @@ pub record PairPlaced {S : Type 0} (after beside : S → Stretch → S) (ts : Li
   pub placed : PlacedPiece Pair (seen ts at) at (pair_of r) (seen ts r.next) r.next entry
   pub kept : Kept after beside old (E.keys (entry ∷ [])) (E.values (entry ∷ [])) new
 
--- those behind some that were read
+-- those after some that were read
 pub record PairsPlaced {S : Type 0} (after beside : S → Stretch → S) (ts : List Terminal) (pairs r : Pairs) (old new : S)
     : Type 0 where
   pub es : List Entry

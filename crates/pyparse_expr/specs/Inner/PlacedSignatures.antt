@@ -17,12 +17,12 @@ use Rattle.pyplaces.specs.Recording.{Records, Moves, Kept}
 use Rattle.pyplaces.specs.Stretches.{Stretch}
 
 -- how many nodes are set aside up to the last default in front of a star: all, before one stood
-abbrev pub defaults_behind : Stage → ℕ → ℕ → ℕ
-defaults_behind stage.Open count aside = aside
-defaults_behind stage.Closed count aside = aside
-defaults_behind _ count aside = count
+abbrev pub defaults_after : Stage → ℕ → ℕ → ℕ
+defaults_after stage.Open count aside = aside
+defaults_after stage.Closed count aside = aside
+defaults_after _ count aside = count
 
--- What was recorded, and set aside, of a parameter of these places. In front of a `**` those set aside behind so many are taken back.
+-- What was recorded, and set aside, of a parameter of these places. In front of a `**` those set aside after so many are taken back.
 abbrev pub Recorded : {S : Type 0} (after beside : S → Stretch → S) → (S → ℕ) → ℕ → EntryPlaces → S → S → Type 0
 Recorded after beside aside_count count (E.Plain ps ds) old new = Kept after beside old ps ds new
 Recorded after beside aside_count count (E.Gathered ps) old new = Records after old ps new

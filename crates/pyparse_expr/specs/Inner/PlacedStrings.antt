@@ -19,14 +19,14 @@ use Rattle.pyplaces.specs.Rows.{RowSoFar, text_places}
 use Rattle.pyplaces.specs.Stretches.{Stretch}
 use Rattle.pyplaces.proofs.Loops.{Grows}
 
--- Behind this text some parts of a row were read, with the places within each field: the text behind the last field then, and the places
+-- After this text some parts of a row were read, with the places within each field: the text after the last field then, and the places
 -- in front of that text.
 pub record RowGrows (row : Stretch) (before : List ℕ) (parts : List StringPart) (fields : List (List Stretch)) (text : List ℕ)
     (more : List Stretch) : Type 0 where
   pub so : (ss : List StringPart) (fs : List (List Stretch)) (ds : List Stretch) → RowSoFar row ss fs before ds
       → RowSoFar row (ss ++ parts) (fs ++ fields) text (ds ++ more)
 
--- some parts behind others; L is what a run of them is
+-- some parts after others; L is what a run of them is
 pub record PartsPlaced {S : Type 0} (after : S → Stretch → S)
     (L : List tokens.Terminal → ℕ → List StringPart → List tokens.Terminal → ℕ → List (List Stretch) → Type 0)
     (ts : List Terminal) (u : Bool) (row : Stretch) (before r : JoinedValues) (old new : S) : Type 0 where
@@ -38,7 +38,7 @@ pub record PartsPlaced {S : Type 0} (after : S → Stretch → S)
   pub row_grows : RowGrows row before.text parts fields r.text more
   pub records : Records after old more new
 
--- the parts of an f-string, and its end behind them
+-- the parts of an f-string, and its end after them
 pub record FormattedPlaced {S : Type 0} (after : S → Stretch → S) (ts : List Terminal) (u : Bool) (row : Stretch) (before r : JoinedValues)
     (old new : S) : Type 0 where
   pub parts : List StringPart
@@ -52,7 +52,7 @@ pub record FormattedPlaced {S : Type 0} (after : S → Stretch → S) (ts : List
   pub row_grows : RowGrows row before.text parts fields r.text more
   pub records : Records after old more new
 
--- a field from behind its begin on, without its own place
+-- a field from after its begin on, without its own place
 pub record FieldPlaced {S : Type 0} (after : S → Stretch → S) (ts : List Terminal) (u : Bool) (c : Conversion) (row : Stretch) (at : ℕ)
     (r : Read) (old new : S) : Type 0 where
   pub value : Expr
@@ -69,7 +69,7 @@ pub record FieldPlaced {S : Type 0} (after : S → Stretch → S) (ts : List Ter
   pub next_is : r.next ≡ last + 1
   pub records : Records after old (ps ++ qs) new
 
--- what is in a row from its first f-string on, behind a text in front of that, and all places of the row
+-- what is in a row from its first f-string on, after a text in front of that, and all places of the row
 pub record JoinedPlaced {S : Type 0} (after : S → Stretch → S) (ts : List Terminal) (u : Bool) (row : Stretch) (before : JoinedValues)
     (r : Read) (old new : S) : Type 0 where
   pub parts : List StringPart

@@ -23,7 +23,7 @@ use Rattle.pyparse_expr.specs.Inner.Readings.{inner_reads}
 use Rattle.pyparse_nodes.specs.Views.{seen}
 use Rattle.pyparse_expr.specs.Inner.FormalHeights.{entry_height, entry_heights}
 
--- what stands behind the name of a parameter
+-- what stands after the name of a parameter
 abbrev pub plain_reads : Depth → Bool → Identifier → List tokens.Terminal → Answer Entry
 plain_reads d b x r = and_then (annotated (inner_reads d) b r) (λ a r2. and_then (suffixed (inner_reads d) (Some Equal) r2)
     (λ e r3. Found (Plain (arg x a) e) r3))
@@ -60,7 +60,7 @@ pub record SignatureAt (ts : List Terminal) (room least : ℕ) (x : Answer (List
 pub record IsTall (s : Signature) : Type 0 where
   pub is : (a : Arguments) → outcome (state_of s.formal) ≡ Some a → s.height ≡ arguments_height a
 
--- what stands behind the parameters of a lambda
+-- what stands after the parameters of a lambda
 abbrev pub body_reads : Depth → Option Arguments → List tokens.Terminal → Answer Expr
 body_reads d o r1 = on_first (is_op Colon) r1 (λ _ r2. and_then (inner_reads d level.Expression r2) (λ e r3. made (lambda_of o e) r3))
     NoForm

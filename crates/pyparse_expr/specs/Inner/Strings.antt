@@ -39,7 +39,7 @@ pub record PartsAt (u : Bool) (ts : List Terminal) (least : ℕ) (x : Answer (Li
 abbrev pub PartsAnswered : Bool → List Terminal → (least : ℕ) → Answer (List StringPart) → Result JoinedValues Stop → Type 0
 PartsAnswered u ts least x z = MatchResult z (λ j. PartsAt u ts least x j) (λ s. Failed s x)
 
--- one part, from behind its first terminal on; and its value behind others
+-- one part, from after its first terminal on; and its value after others
 abbrev pub part_reads : Reads → Bool → ℕ → Part → List tokens.Terminal → Answer StringPart
 part_reads self u most (part.Text p) r = Found (Text (text_points (text_part p))) r
 part_reads self u most (part.Field c) r = and_then (field_with self (λ i. parts_loop self u most [] i) u c r) (λ e s. Found (Field e) s)

@@ -24,13 +24,13 @@ use Rattle.pyplaces.proofs.Forms.Headers.{placed_case_line}
 use Rattle.pyparse_pattern.specs.declared.found.ReadPattern.{ReadPattern}
 use Rattle.pyparse_statement.specs.declared.headers.found.ReadHeader.{ReadHeader}
 use Rattle.pyparse_line.specs.Inner.Placed.{CasePlaced}
-use Rattle.pyparse_statement.specs.PlacedParts.{BehindPlaced}
+use Rattle.pyparse_statement.specs.PlacedParts.{AfterPlaced}
 use Rattle.pyparse_statement.proofs.Callers.Looks.{moved}
 
 module _ {S : Type 0} {after : S → Stretch → S} {count : S → ℕ} {ts : List given.Terminal} where
   pub case_placed : {at : ℕ} {u v w : S} {ps : List Stretch} {guard : Optional} {r : ReadHeader} (pattern : ReadPattern)
       → PlacedPattern Patterns (seen ts at) at (pattern_of pattern.pattern.value) (seen ts pattern.next) pattern.next ps
-      → Records after u ps v → BehindPlaced after (Word Key.If) Named ts pattern.next v w guard
+      → Records after u ps v → AfterPlaced after (Word Key.If) Named ts pattern.next v w guard
       → header_of r.header ≡ case_header (pattern_of pattern.pattern.value) (boxed_of guard.expr) → r.next ≡ guard.next
       → r.before ≡ count w → (from : ℕ) (form : Identifier) → at ≡ from + 1 → seen ts from ≡ case_word form ∷ seen ts at
       → CasePlaced after count ts from u w r

@@ -262,18 +262,18 @@ module _ {S : Type 0} {after : S → Stretch → S} {count : S → ℕ} {ts : Li
   -- with nothing but what stands before the body
   plain_line : {n : ℕ} {f : Form} {ps : List Stretch} {u v : S} {r : ReadForm}
       → (seen ts n ≡ [] → PlacedLine profile (seen ts 0) f (plain_header ps)) → Records after u ps v → form_of r.form ≡ f → r.next ≡ n
-      → r.before ≡ count v → r.behind ≡ count v → LinePlaced after count profile ts u v r
+      → r.before ≡ count v → r.following ≡ count v → LinePlaced after count profile ts u v r
   plain_line {ps = ps} {u} l k h q b c = record {
     places = plain_header ps;
     line = λ e. subst (λ y. PlacedLine profile (seen ts 0) y (plain_header ps)) (sym h) (l (ap (λ m. seen ts m) (sym q) ∙ e));
     before_is = b ∙ ap count k.is;
-    behind_is = c ∙ ap count (k.is ∙ ap (λ l. afters after u l) (sym (append-nil ps)));
+    after_is = c ∙ ap count (k.is ∙ ap (λ l. afters after u l) (sym (append-nil ps)));
     records = record { is = k.is ∙ ap (λ l. afters after u l) (sym (append-nil ps)) };
   }
 
   pub decorator_placed : {ps : List Stretch} {u v : S} {r : ReadForm} (e : Read)
       → Placed Named (seen ts 1) 1 (tree_of e.expr.value) (seen ts e.next) e.next ps → Records after u ps v
-      → form_of r.form ≡ decorator_form (tree_of e.expr.value) → r.next ≡ e.next → r.before ≡ count v → r.behind ≡ count v
+      → form_of r.form ≡ decorator_form (tree_of e.expr.value) → r.next ≡ e.next → r.before ≡ count v → r.following ≡ count v
       → seen ts 0 ≡ Op Sign.At ∷ seen ts 1 → LinePlaced after count profile ts u v r
   decorator_placed {ps = ps} e p k h q b c s = plain_line
       (λ z. placed_decorator_line s (subst (λ i. Placed Named (seen ts 1) 1 (tree_of e.expr.value) i e.next ps) z p)) k h q b c
@@ -281,7 +281,7 @@ module _ {S : Type 0} {after : S → Stretch → S} {count : S → ℕ} {ts : Li
   pub match_placed : {at : ℕ} {ps : List Stretch} {u v : S} {r : ReadForm} (e : Read)
       → Placed Subject (seen ts at) at (tree_of e.expr.value) (seen ts e.next) e.next ps → Records after u ps v
       → Stands (Op Sign.Colon) ts e.next → form_of r.form ≡ header_form (match_header (tree_of e.expr.value)) None → r.next ≡ e.next + 1
-      → r.before ≡ count v → r.behind ≡ count v → (form : Identifier) → is_whole profile.extent ≡ true → at ≡ 1
+      → r.before ≡ count v → r.following ≡ count v → (form : Identifier) → is_whole profile.extent ≡ true → at ≡ 1
       → seen ts 0 ≡ match_word form ∷ seen ts at → LinePlaced after count profile ts u v r
   match_placed {at} {ps} e p k c h q b d form w a s = plain_line
       (λ z. placed_match_line w (s ∙ ap (λ n. match_word form ∷ seen ts n) a)
@@ -289,7 +289,7 @@ module _ {S : Type 0} {after : S → Stretch → S} {count : S → ℕ} {ts : Li
       (c.is ∙ ap (λ i. Op Sign.Colon ∷ i) z)) k h q b d
 
   pub simple_placed : {u v : S} {ss : ReadStatements} {r : ReadForm} → SimplesPlaced after profile ts 0 u v ss
-      → form_of r.form ≡ simple_form (map stmt_of ss.statements.items) → r.next ≡ ss.next → r.before ≡ count u → r.behind ≡ count u
+      → form_of r.form ≡ simple_form (map stmt_of ss.statements.items) → r.next ≡ ss.next → r.before ≡ count u → r.following ≡ count u
       → LinePlaced after count profile ts u v r
   simple_placed {ss = ss} p h q b c = record {
     places = form_places [] [] p.places;
@@ -297,53 +297,53 @@ module _ {S : Type 0} {after : S → Stretch → S} {count : S → ℕ} {ts : Li
         (subst (λ i. PlacedSimples profile (seen ts 0) 0 (map stmt_of ss.statements.items) i ss.next p.places)
         (ap (λ m. seen ts m) (sym q) ∙ e) p.simples));
     before_is = b;
-    behind_is = c;
+    after_is = c;
     records = p.records;
   }
 
-  pub headed_placed : {u v w : S} {header : ReadHeader} {suite : ReadSuite} {r : ReadForm} (behind : ℕ)
-      → HeaderPlaced after count profile ts 0 u v header → behind ≡ count v → ColonPlaced after profile ts header.next v w suite
+  pub headed_placed : {u v w : S} {header : ReadHeader} {suite : ReadSuite} {r : ReadForm} (following : ℕ)
+      → HeaderPlaced after count profile ts 0 u v header → following ≡ count v → ColonPlaced after profile ts header.next v w suite
       → form_of r.form ≡ header_form (header_of header.header) (suite_of suite.statements) → r.next ≡ suite.next
-      → r.before ≡ header.before → r.behind ≡ behind → LinePlaced after count profile ts u w r
-  headed_placed {u} {w = w} behind p d c h q a b =
-      let f = form_places p.before p.behind c.suite.places in
+      → r.before ≡ header.before → r.following ≡ following → LinePlaced after count profile ts u w r
+  headed_placed {u} {w = w} following p d c h q a b =
+      let f = form_places p.before p.following c.suite.places in
       record {
         places = f;
         line = λ e. subst (λ y. PlacedLine profile (seen ts 0) y f) (sym h)
             (headed_line (p.header _ c.colon.is) c.colon.is c.suite.suite (ap (λ m. seen ts m) (sym q) ∙ e));
         before_is = a ∙ p.before_is;
-        behind_is = b ∙ (d ∙ ap count p.records.is);
-        records = subst (λ l. Records after u l w) (append_assoc p.before p.behind c.suite.places)
+        after_is = b ∙ (d ∙ ap count p.records.is);
+        records = subst (λ l. Records after u l w) (append_assoc p.before p.following c.suite.places)
             (records_more p.records c.suite.records);
       }
 
-  pub case_line_placed : {u v w : S} {header : ReadHeader} {suite : ReadSuite} {r : ReadForm} (behind : ℕ)
-      → CasePlaced after count ts 0 u v header → behind ≡ count v → ColonPlaced after profile ts header.next v w suite
+  pub case_line_placed : {u v w : S} {header : ReadHeader} {suite : ReadSuite} {r : ReadForm} (following : ℕ)
+      → CasePlaced after count ts 0 u v header → following ≡ count v → ColonPlaced after profile ts header.next v w suite
       → form_of r.form ≡ header_form (header_of header.header) (suite_of suite.statements) → r.next ≡ suite.next
-      → r.before ≡ header.before → r.behind ≡ behind → is_whole profile.extent ≡ true → FormPlaced after count profile true ts u w r
-  case_line_placed {u} behind p d c h q a b x =
+      → r.before ≡ header.before → r.following ≡ following → is_whole profile.extent ≡ true → FormPlaced after count profile true ts u w r
+  case_line_placed {u} following p d c h q a b x =
       let f = form_places p.before [] c.suite.places in
       record {
         places = f;
         form = λ e. subst (λ y. PlacedForm profile true (seen ts 0) y f) (sym h)
             (cased_line x p.header c.colon.is c.suite.suite (ap (λ m. seen ts m) (sym q) ∙ e));
         before_is = a ∙ p.before_is;
-        behind_is = b ∙ (d ∙ ap count (p.records.is ∙ ap (λ l. afters after u l) (sym (append-nil p.before))));
+        after_is = b ∙ (d ∙ ap count (p.records.is ∙ ap (λ l. afters after u l) (sym (append-nil p.before))));
         records = records_more p.records c.suite.records;
       }
 
   -- the whole line
   pub whole_placed : {inside : Bool} {u v : S} (r : ReadForm) → FormPlaced after count profile inside ts u v r → r.next ≡ length ts
       → (d : F.FormAt profile inside (map terminal ts) (form_of r.form)) × (r.before ≡ count (afters after u (places_at d).before)) ×
-      (r.behind ≡ count (afters after u ((places_at d).before ++ (places_at d).behind))) ×
-      Records after u ((places_at d).before ++ ((places_at d).behind ++ (places_at d).suite)) v
+      (r.following ≡ count (afters after u ((places_at d).before ++ (places_at d).following))) ×
+      Records after u ((places_at d).before ++ ((places_at d).following ++ (places_at d).suite)) v
   whole_placed {u = u} {v} r p q =
       let w = p.form (seen_end ts r.next q) in
       let e : p.places ≡ places_at w.derived = sym w.places_are in (
         w.derived,
         p.before_is ∙ ap (λ f. count (afters after u f.before)) e,
-        p.behind_is ∙ ap (λ f. count (afters after u (f.before ++ f.behind))) e,
-        subst (λ (f : FormPlaces). Records after u (f.before ++ (f.behind ++ f.suite)) v) e p.records,
+        p.after_is ∙ ap (λ f. count (afters after u (f.before ++ f.following))) e,
+        subst (λ (f : FormPlaces). Records after u (f.before ++ (f.following ++ f.suite)) v) e p.records,
       )
 
 -- at its place
@@ -355,7 +355,7 @@ module _ {S : Type 0} (after : S → Stretch → S) (count : S → ℕ) (ts : Li
     places = p.places;
     form = λ e. placed_other_line n (p.line e);
     before_is = p.before_is;
-    behind_is = p.behind_is;
+    after_is = p.after_is;
     records = p.records;
   }
   other_placed (Err o) n p = tt

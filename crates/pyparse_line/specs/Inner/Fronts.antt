@@ -16,16 +16,16 @@ use Rattle.pygrammar.specs.Reader.{Answer, Found, NoForm, Reads, and_then, on_fi
 use Rattle.pyparse_line.specs.declared.openings.Opening.{Opening}
 use Rattle.pyparse_line.specs.declared.openings.Opening.TheVariants as kind
 
--- behind an `@`
+-- after an `@`
 abbrev pub decorator : Reads → List Terminal → Answer Form
 decorator self r = and_then (self Named r) (λ e r1. Found (decorator_form e) r1)
 
--- behind a header's colon
+-- after a header's colon
 abbrev pub suite : Profile → Reads → List Terminal → Answer (Option (List Stmt))
 suite profile self [] = Found None []
 suite profile self (t ∷ r) = and_then (reader.statements profile self (suc (length (t ∷ r))) (t ∷ r)) (λ ss r1. Found (Some ss) r1)
 
--- the colon, and what stands behind it
+-- the colon, and what stands after it
 abbrev pub colon : Profile → Reads → List Terminal → Answer (Option (List Stmt))
 colon profile self i = on_first (is_op Colon) i (λ _ r. suite profile self r) NoForm
 
@@ -36,11 +36,11 @@ with_colon profile self x = and_then x (λ h r. and_then (colon profile self r) 
 abbrev pub headed : Profile → Reads → List Terminal → Answer Form
 headed profile self i = with_colon profile self (reader.read_header profile self i)
 
--- behind `match`
+-- after `match`
 abbrev pub matched : Reads → List Terminal → Answer Form
 matched self i = and_then (self Subject i) (λ e r. on_first (is_op Colon) r (λ _ r1. Found (header_form (match_header e) None) r1) NoForm)
 
--- behind `case`, up to the colon
+-- after `case`, up to the colon
 abbrev pub case_header_of : Reads → PatternReads → List Terminal → Answer Header
 case_header_of self patterns i =
     and_then (patterns Patterns i) (λ p r. and_then (reader.after self (Word If) Named r) (λ g r1. Found (case_header p g) r1))
@@ -57,7 +57,7 @@ module _ (profile : Profile) (self : Reads) (patterns : PatternReads) where
   abbrev pub front : Bool → List Terminal → Answer Form
   front inside i = cond (is_case_line profile inside i) (reader.case_front profile self patterns i) (reader.line_front profile self i)
 
-  -- that of a line of a kind; r are the terminals behind the first
+  -- that of a line of a kind; r are the terminals after the first
   abbrev pub front_of : Opening → (i r : List Terminal) → Answer Form
   front_of kind.Decorates i r = decorator self r
   front_of kind.Heads i r = headed profile self i

@@ -1,4 +1,4 @@
--- The height of the highest expression in the statements behind a colon, if there are any.
+-- The height of the highest expression in the statements after a colon, if there are any.
 use Rattle.std.specs.Prelude.{ℕ, List, Option, Some, None}
 use Rattle.pytree_node.specs.Trees.{Stmt, stmts}
 use Rattle.pytree_height.specs.Heights.{highest_in_all}

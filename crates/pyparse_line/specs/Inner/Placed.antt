@@ -16,12 +16,12 @@ use Rattle.pyparse_line.specs.declared.found.ReadForm.{ReadForm}
 use Rattle.pyparse_line.specs.declared.found.ReadSuite.{ReadSuite}
 use Rattle.pyparse_statement.specs.declared.headers.found.ReadHeader.{ReadHeader}
 
--- what stands behind a header's colon: statements, or the end of the line
+-- what stands after a header's colon: statements, or the end of the line
 pub data PlacedSuite (profile : Profile) : List tokens.Terminal → ℕ → Option (List Stmt) → List tokens.Terminal → ℕ → List Stretch
     → Type 0 where
   no_suite : {at : ℕ} → PlacedSuite profile [] at None [] at []
-  some_suite : {i r : List tokens.Terminal} {at behind : ℕ} {ss : List Stmt} {ps : List Stretch}
-      → PlacedSimples profile i at ss r behind ps → PlacedSuite profile i at (Some ss) r behind ps
+  some_suite : {i r : List tokens.Terminal} {at following : ℕ} {ss : List Stmt} {ps : List Stretch}
+      → PlacedSimples profile i at ss r following ps → PlacedSuite profile i at (Some ss) r following ps
 
 module _ {S : Type 0} (after : S → Stretch → S) where
   pub record SuitePlaced (profile : Profile) (ts : List Terminal) (at : ℕ) (old new : S) (r : ReadSuite) : Type 0 where
@@ -29,7 +29,7 @@ module _ {S : Type 0} (after : S → Stretch → S) where
     pub suite : PlacedSuite profile (seen ts at) at (suite_of r.statements) (seen ts r.next) r.next places
     pub records : Records after old places new
 
-  -- behind its colon
+  -- after its colon
   pub record ColonPlaced (profile : Profile) (ts : List Terminal) (at : ℕ) (old new : S) (r : ReadSuite) : Type 0 where
     pub colon : Stands (Op Colon) ts at
     pub suite : SuitePlaced profile ts (at + 1) old new r
@@ -42,17 +42,17 @@ module _ {S : Type 0} (after : S → Stretch → S) (count : S → ℕ) where
     pub before_is : r.before ≡ count (afters after old before)
     pub records : Records after old before new
 
-  -- the whole line, where nothing is left behind it
+  -- the whole line, where nothing is left after it
   pub record LinePlaced (profile : Profile) (ts : List Terminal) (old new : S) (r : ReadForm) : Type 0 where
     pub places : FormPlaces
     pub line : seen ts r.next ≡ [] → PlacedLine profile (seen ts 0) (form_of r.form) places
     pub before_is : r.before ≡ count (afters after old places.before)
-    pub behind_is : r.behind ≡ count (afters after old (places.before ++ places.behind))
-    pub records : Records after old (places.before ++ (places.behind ++ places.suite)) new
+    pub after_is : r.following ≡ count (afters after old (places.before ++ places.following))
+    pub records : Records after old (places.before ++ (places.following ++ places.suite)) new
 
   pub record FormPlaced (profile : Profile) (inside : Bool) (ts : List Terminal) (old new : S) (r : ReadForm) : Type 0 where
     pub places : FormPlaces
     pub form : seen ts r.next ≡ [] → PlacedForm profile inside (seen ts 0) (form_of r.form) places
     pub before_is : r.before ≡ count (afters after old places.before)
-    pub behind_is : r.behind ≡ count (afters after old (places.before ++ places.behind))
-    pub records : Records after old (places.before ++ (places.behind ++ places.suite)) new
+    pub after_is : r.following ≡ count (afters after old (places.before ++ places.following))
+    pub records : Records after old (places.before ++ (places.following ++ places.suite)) new

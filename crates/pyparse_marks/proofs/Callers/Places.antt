@@ -22,7 +22,7 @@ starts text e placed is =
     let p = placed is in
     let q = place_past (spot_at 1 0) p.earlier in
     ap (λ (r : Place). offset r.row r.column text) p.place ∙ ap (offset q.row q.column) p.whole
-    ∙ offset_is p.earlier p.behind ∙ sym p.begins
+    ∙ offset_is p.earlier p.following ∙ sym p.begins
 
 pub tokens_start : (s : Source) → All (StartsAt s.text) (entries_of (listing s))
 tokens_start s k d within = starts s.text _ (entries_placed s k d within)

@@ -1,4 +1,4 @@
--- The places of entries: what is recorded as they are read is what the definition puts one behind the other.
+-- The places of entries: what is recorded as they are read is what the definition puts one after the other.
 --
 -- Carries: read_entries, read_entry, key_entry, rest_entry, argument_entry, elements, others, finish_mapping, finish_class. On: Made;
 -- Lists, Asides and Loops of pyplaces.
@@ -26,7 +26,7 @@ use Rattle.pyparse_pattern.specs.declared.entries.ReadEntry.{ReadEntry}
 use Rattle.pyparse_pattern.specs.declared.found.Patterns.{Patterns}
 use Rattle.pyparse_pattern.specs.declared.found.ReadPattern.{ReadPattern}
 use Rattle.pyparse_pattern.specs.Inner.Entries.{alone_in, entry_of}
-use Rattle.pyparse_pattern.specs.Inner.PlacedParts.{ElementsPlaced, EntriesPlaced, EntryPlaced, front, behind, fronts, behinds}
+use Rattle.pyparse_pattern.specs.Inner.PlacedParts.{ElementsPlaced, EntriesPlaced, EntryPlaced, front, following, fronts, followings}
 use Rattle.pyplaces.specs.Stretches.{Stretch}
 use Rattle.pyplaces.specs.PatternPlaces as E
 use Rattle.pyplaces.specs.PatternPlaces.{EntryPlaces, entries_places, pattern_places}
@@ -44,7 +44,7 @@ use Rattle.pyparse_pattern.proofs.Recorders.Values.{KeyRead}
 
 -- patterns alone
 only_alone : {j : PatternItem} {ts : List Terminal} {es : List PatternEntry} (at : ℕ) (d : P.PatternListing j ts es) → j ≡ Element
-    → (fronts (entries_places at d) ≡ E.alone (entries_places at d)) × (behinds (entries_places at d) ≡ [])
+    → (fronts (entries_places at d) ≡ E.alone (entries_places at d)) × (followings (entries_places at d) ≡ [])
 only_alone at P.no_entry h = (refl, refl)
 only_alone at (P.last_entry (P.element p)) h = (refl, refl)
 only_alone at (P.last_entry _) h = absurd (cc)
@@ -54,7 +54,7 @@ only_alone at (P.entry _ c) h = absurd (cc)
 
 -- keys and patterns
 only_keys : {j : PatternItem} {ts : List Terminal} {es : List PatternEntry} (at : ℕ) (d : P.PatternListing j ts es) → j ≡ KeyPattern
-    → (fronts (entries_places at d) ≡ E.pattern_keys (entries_places at d)) × (behinds (entries_places at d)
+    → (fronts (entries_places at d) ≡ E.pattern_keys (entries_places at d)) × (followings (entries_places at d)
     ≡ E.key_patterns (entries_places at d))
 only_keys at P.no_entry h = (refl, refl)
 only_keys at (P.last_entry (P.key_pattern k p)) h = (refl, refl)
@@ -109,36 +109,36 @@ in_order at (P.entry {ts = us} {es = es} (P.named_argument {x = x} {ts = ts} {p 
 in_order at (P.entry _ c) b h q = absurd (cc)
 
 module _ {i r : List Terminal} {at n : ℕ} {es : List PatternEntry} {fs : List EntryPlaces} where
-  pub alone_fronts : PlacedEntries Element i at es r n fs → (fronts fs ≡ E.alone fs) × (behinds fs ≡ [])
-  alone_fronts p = subst (λ z. (fronts z ≡ E.alone z) × (behinds z ≡ [])) p.places_are (only_alone at p.derived refl)
+  pub alone_fronts : PlacedEntries Element i at es r n fs → (fronts fs ≡ E.alone fs) × (followings fs ≡ [])
+  alone_fronts p = subst (λ z. (fronts z ≡ E.alone z) × (followings z ≡ [])) p.places_are (only_alone at p.derived refl)
 
-  pub key_fronts : PlacedEntries KeyPattern i at es r n fs → (fronts fs ≡ E.pattern_keys fs) × (behinds fs ≡ E.key_patterns fs)
-  key_fronts p = subst (λ z. (fronts z ≡ E.pattern_keys z) × (behinds z ≡ E.key_patterns z)) p.places_are (only_keys at p.derived refl)
+  pub key_fronts : PlacedEntries KeyPattern i at es r n fs → (fronts fs ≡ E.pattern_keys fs) × (followings fs ≡ E.key_patterns fs)
+  key_fronts p = subst (λ z. (fronts z ≡ E.pattern_keys z) × (followings z ≡ E.key_patterns z)) p.places_are (only_keys at p.derived refl)
 
   pub class_fronts : PlacedEntries ClassArgument i at es r n fs → are_class_arguments false es ≡ true
       → fronts fs ≡ E.alone fs ++ E.named fs
   class_fronts p q = subst (λ z. fronts z ≡ E.alone z ++ E.named z) p.places_are (in_order at p.derived false refl q)
 
 -- none of a class is set aside
-no_behind : {j : PatternItem} {ts : List Terminal} {es : List PatternEntry} (at : ℕ) (d : P.PatternListing j ts es) → j ≡ ClassArgument
-    → behinds (entries_places at d) ≡ []
-no_behind at P.no_entry h = refl
-no_behind at (P.last_entry (P.argument p)) h = refl
-no_behind at (P.last_entry (P.named_argument p)) h = refl
-no_behind at (P.last_entry _) h = absurd (cc)
-no_behind at (P.entry {ts = us} (P.argument p) c) h = no_behind (1 + (at + length us)) c h
-no_behind at (P.entry {ts = us} (P.named_argument p) c) h = no_behind (1 + (at + length us)) c h
-no_behind at (P.entry _ c) h = absurd (cc)
+no_after : {j : PatternItem} {ts : List Terminal} {es : List PatternEntry} (at : ℕ) (d : P.PatternListing j ts es) → j ≡ ClassArgument
+    → followings (entries_places at d) ≡ []
+no_after at P.no_entry h = refl
+no_after at (P.last_entry (P.argument p)) h = refl
+no_after at (P.last_entry (P.named_argument p)) h = refl
+no_after at (P.last_entry _) h = absurd (cc)
+no_after at (P.entry {ts = us} (P.argument p) c) h = no_after (1 + (at + length us)) c h
+no_after at (P.entry {ts = us} (P.named_argument p) c) h = no_after (1 + (at + length us)) c h
+no_after at (P.entry _ c) h = absurd (cc)
 
--- ---- One behind the other.
+-- ---- One after the other.
 
 fronts_push : (fs : List EntryPlaces) (e : EntryPlaces) → fronts (fs ++ (e ∷ [])) ≡ fronts fs ++ front e
 fronts_push [] e = append-nil (front e)
 fronts_push (f ∷ fs) e = ap (λ z. front f ++ z) (fronts_push fs e) ∙ sym (append_assoc (front f) (fronts fs) (front e))
 
-behinds_push : (fs : List EntryPlaces) (e : EntryPlaces) → behinds (fs ++ (e ∷ [])) ≡ behinds fs ++ behind e
-behinds_push [] e = append-nil (behind e)
-behinds_push (f ∷ fs) e = ap (λ z. behind f ++ z) (behinds_push fs e) ∙ sym (append_assoc (behind f) (behinds fs) (behind e))
+afters_push : (fs : List EntryPlaces) (e : EntryPlaces) → followings (fs ++ (e ∷ [])) ≡ followings fs ++ following e
+afters_push [] e = append-nil (following e)
+afters_push (f ∷ fs) e = ap (λ z. following f ++ z) (afters_push fs e) ∙ sym (append_assoc (following f) (followings fs) (following e))
 
 -- by equal runs
 pub kept_as : {S : Type 0} {after beside : S → Stretch → S} {u v : S} {ps qs rs ss : List Stretch} → ps ≡ rs → qs ≡ ss
@@ -151,7 +151,7 @@ pub record EntriesGrown {S : Type 0} (after beside : S → Stretch → S) (ts : 
     (now : found.Entries) (old new : S) : Type 0 where
   pub places : List EntryPlaces
   pub grows : Grows (PlacedEntries i) (seen ts at) at (map entry_of now.items.items) (seen ts now.next) now.next places
-  pub kept : Kept after beside old (fronts places) (behinds places) new
+  pub kept : Kept after beside old (fronts places) (followings places) new
 
 module _ {S : Type 0} {after beside : S → Stretch → S} {ts : List given.Terminal} {i : PatternItem} where
   pub entries_begun : {u : S} (at : ℕ) (s : found.Entries) → map entry_of s.items.items ≡ [] → s.next ≡ at
@@ -169,10 +169,10 @@ module _ {S : Type 0} {after beside : S → Stretch → S} {ts : List given.Term
   module _ {u v w : S} (apart : Apart after beside) (at : ℕ) (s : found.Entries) (one : ReadEntry) (r : found.Entries)
       (g : EntriesGrown after beside ts i at s u v) (d : EntryPlaced after beside ts i s.next one v w)
       (q : map entry_of r.items.items ≡ map entry_of s.items.items ++ (entry_of one.entry ∷ [])) (n : r.next ≡ one.next) where
-    both : Kept after beside u (fronts (g.places ++ (d.place ∷ []))) (behinds (g.places ++ (d.place ∷ []))) w
-    both = kept_as (fronts_push g.places d.place) (behinds_push g.places d.place) (kept_more apart g.kept d.kept)
+    both : Kept after beside u (fronts (g.places ++ (d.place ∷ []))) (followings (g.places ++ (d.place ∷ []))) w
+    both = kept_as (fronts_push g.places d.place) (afters_push g.places d.place) (kept_more apart g.kept d.kept)
 
-    -- no comma behind it
+    -- no comma after it
     pub entries_closed : EntriesPlaced after beside ts i at r u w
     entries_closed = record {
       places = g.places ++ (d.place ∷ []);
@@ -181,7 +181,7 @@ module _ {S : Type 0} {after beside : S → Stretch → S} {ts : List given.Term
       kept = both;
     }
 
-    -- a comma behind it
+    -- a comma after it
     pub entries_gone : (z : found.Entries) → Stands (Op Comma) ts r.next → map entry_of z.items.items ≡ map entry_of r.items.items
         → z.next ≡ r.next + 1 → EntriesGrown after beside ts i at z u w
     entries_gone z comma zg zn =
@@ -279,7 +279,7 @@ module _ {S : Type 0} {after beside : S → Stretch → S} {u v : S} {ts : List 
       }
   elements_placed before (Err e) d g n = tt
 
--- behind others, from a place
+-- after others, from a place
 pub elements_as : {S : Type 0} (after : S → Stretch → S) (u v : S) (ts : List given.Terminal) (m n : ℕ) (xs ys : List Pattern)
     (z : Result Patterns Stop)
     → m ≡ n → xs ≡ ys → IfOk z (λ r. ElementsPlaced after ts n ys r u v) → IfOk z (λ r. ElementsPlaced after ts m xs r u v)
@@ -290,5 +290,5 @@ elements_as after u v ts m n xs ys z q g h = subst (λ k. IfOk z (λ r. Elements
 pub class_records : {S : Type 0} {after beside : S → Stretch → S} {u v : S} {ts : List given.Terminal} {at : ℕ} {s : found.Entries}
     (d : EntriesPlaced after beside ts ClassArgument at s u v) → Records after u (fronts d.places) v
 class_records {at = at} d =
-    let b : behinds d.places ≡ [] = ap behinds (sym d.listing.places_are) ∙ no_behind at d.listing.derived refl in
+    let b : followings d.places ≡ [] = ap followings (sym d.listing.places_are) ∙ no_after at d.listing.derived refl in
     records_kept (kept_as refl (sym b) d.kept)

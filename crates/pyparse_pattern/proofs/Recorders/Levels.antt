@@ -35,7 +35,7 @@ use Rattle.pyparse_pattern.specs.declared.found.ReadPattern.{ReadPattern}
 use Rattle.pyparse_pattern.specs.Inner.Entries.{entry_of}
 use Rattle.pyparse_pattern.specs.Inner.Found.{IsQualified}
 use Rattle.pyparse_pattern.specs.Inner.Made.{MadePattern, MakesPattern}
-use Rattle.pyparse_pattern.specs.Inner.PlacedParts.{AlternativesPlaced, behinds, fronts}
+use Rattle.pyparse_pattern.specs.Inner.PlacedParts.{AlternativesPlaced, followings, fronts}
 use Rattle.pyplaces.specs.Stretches.{Stretch, stretch}
 use Rattle.pyplaces.specs.PatternPlaces as E
 use Rattle.pyplaces.specs.PatternPlaces.{EntryPlaces}
@@ -52,7 +52,7 @@ use Rattle.pyplaces.proofs.Patterns.Values.{placed_class}
 use Rattle.pyparse_reads.proofs.Callers.Looks.{no_op, name_first, with_places}
 use Rattle.pyparse_pattern.proofs.ClosedSteps.{no_bracket}
 use Rattle.pyparse_pattern.proofs.Recorders.Entries.{class_fronts, key_fronts}
-use Rattle.pyparse_pattern.proofs.Recorders.Made.{Whole, WholeBehind, leaf_made, said_as, whole_behind, whole_joined, whole_made}
+use Rattle.pyparse_pattern.proofs.Recorders.Made.{Whole, WholeAfter, leaf_made, said_as, whole_after, whole_joined, whole_made}
 use Rattle.pyparse_pattern.proofs.Recorders.Values.{DottedRead, LiteralRead, dotted_value, pointed}
 
 -- up to the end of the list
@@ -118,7 +118,7 @@ module _ {S : Type 0} (after : S → Stretch → S) (u v : S) (ts : List given.T
       (h.0 ++ (o.places ++ (stretch at ps.next ∷ [])))) (sym o.gives) (placed_alternatives h.1 s.is (bars_some o.bars s.is)))
       (records_more h.2 (records_more o.records (records_node d)))
 
-  -- ---- Names behind a `*` and an `as`.
+  -- ---- Names after a `*` and an `as`.
   pub star_placed : (begin at : ℕ) (f : Identifier) (y : Option Identifier) (z : Result ReadPattern Stop) → at ≡ begin + 1
       → Some f ≡ first_is name_in (seen ts at) → y ≡ captured f → v ≡ after u (stretch begin (at + 1))
       → MatchResult z (λ r. MadePattern 1 (MatchStar y) (at + 1) r) (λ s. s ≡ stop.Memory)
@@ -139,14 +139,14 @@ module _ {S : Type 0} (after : S → Stretch → S) (u v : S) (ts : List given.T
       → MakesPattern room (MatchAs (present_pattern (pattern_of inner.pattern.value)) (Some y)) (inner.next + 1 + 1) z
       → (ps : List Stretch)
       → PlacedPattern level.OrPattern (seen ts at) at (pattern_of inner.pattern.value) (seen ts inner.next) inner.next ps
-      → IfOk z (WholeBehind after ts level.AsPattern (seen ts at) at ps u v)
+      → IfOk z (WholeAfter after ts level.AsPattern (seen ts at) at ps u v)
   as_placed at room inner f y z s n e w d m ps p =
       let x = name_first f ts (inner.next + 1) n in
       let same : x.0.form ≡ y = x.2 ∙ sym e in
       let q : as_named (pattern_of inner.pattern.value) x.0.form
       ≡ Some (MatchAs (present_pattern (pattern_of inner.pattern.value)) (Some y)) =
       ap (λ g. as_named (pattern_of inner.pattern.value) g) same ∙ named y w in
-      whole_behind after u v ts ps level.AsPattern (seen ts at) at room
+      whole_after after u v ts ps level.AsPattern (seen ts at) at room
       (MatchAs (present_pattern (pattern_of inner.pattern.value)) (Some y)) (inner.next + 1 + 1) z m (placed_as_name p s.is x.1 q)
       (records_node d)
     where
@@ -169,7 +169,7 @@ module _ {S : Type 0} (after : S → Stretch → S) (u v : S) (ts : List given.T
       whole_made after u v ts level.ClosedPattern (seen ts at) at room (MatchValue (tree_of e.expr.value)) e.next z m (placed_literal h.1)
       (records_more h.2 (records_node d))
 
-  -- ---- Behind a name.
+  -- ---- After a name.
   pub capture_placed : (x : Spelled) (begin at : ℕ) (y : Option Identifier) (z : Result ReadPattern Stop) → at ≡ begin + 1
       → y ≡ captured x.form → v ≡ after u (stretch begin at)
       → MatchResult z (λ r. MadePattern 1 (MatchAs absent_pattern y) at r) (λ s. s ≡ stop.Memory)
@@ -200,11 +200,11 @@ module _ {S : Type 0} (after : S → Stretch → S) (u v : S) (ts : List given.T
       → is_wildcard x.form ≡ false
       → DottedRead after ts x i begin u w e
       → ((j : List Terminal) (ps : List Stretch) → PlacedClass j begin (tree_of e.expr.value) (seen ts e.next) e.next ps
-      → IfOk z (WholeBehind after ts level.ClosedPattern j begin ps w v))
+      → IfOk z (WholeAfter after ts level.ClosedPattern j begin ps w v))
       → IfOk z (Whole after ts level.ClosedPattern i begin u v)
   class_joined x i begin e z b h f = whole_joined after u v ts level.ClosedPattern i begin z h.2 (f i h.0 (placed_class h.1 b))
 
--- ---- Classes and mappings, behind their entries.
+-- ---- Classes and mappings, after their entries.
 
 module _ {S : Type 0} (after : S → Stretch → S) (u v : S) (ts : List given.Terminal) where
   pub class_placed : (at room : ℕ) (class : Read) (entries : found.Entries) (z : Result ReadPattern Stop)
@@ -215,7 +215,7 @@ module _ {S : Type 0} (after : S → Stretch → S) (u v : S) (ts : List given.T
       → Stands (Op LPar) ts class.next → (i : List Terminal) (ps : List Stretch) (w : S) (fs : List EntryPlaces)
       → PlacedClass i at (tree_of class.expr.value) (seen ts class.next) class.next ps
       → PlacedEntries ClassArgument (seen ts (class.next + 1)) (class.next + 1) (map entry_of entries.items.items) (seen ts entries.next)
-      entries.next fs → Records after w (fronts fs) u → IfOk z (WholeBehind after ts level.ClosedPattern i at ps w v)
+      entries.next fs → Records after w (fronts fs) u → IfOk z (WholeAfter after ts level.ClosedPattern i at ps w v)
   class_placed at room class entries z y b d m l i ps w fs p c k =
       let es : List PatternEntry = map entry_of entries.items.items in
       let own : List Stretch = stretch at (entries.next + 1) ∷ [] in
@@ -223,11 +223,11 @@ module _ {S : Type 0} (after : S → Stretch → S) (u v : S) (ts : List given.T
       ≡ Some (MatchClass (tree_of class.expr.value) (elements es) (named_attributes es) (named_patterns es)) = rw b refl in
       let e : ps ++ (E.alone fs ++ (E.named fs ++ own)) ≡ ps ++ (fronts fs ++ own) = ap (λ l. ps ++ l)
       (sym (append_assoc (E.alone fs) (E.named fs) own) ∙ ap (λ l. l ++ own) (sym (class_fronts c b))) in
-      whole_behind after w v ts ps level.ClosedPattern i at room
+      whole_after after w v ts ps level.ClosedPattern i at room
       (MatchClass (tree_of class.expr.value) (elements es) (named_attributes es) (named_patterns es)) (entries.next + 1) z m
       (with_places e (placed_class_pattern p l.is c q y.is)) (records_more k (records_node d))
 
-  -- the patterns are taken back behind the keys
+  -- the patterns are taken back after the keys
   pub mapping_placed : {x : S} {n : ℕ} (beside : S → Stretch → S) (count : S → ℕ) → Apart after beside → Still after count
       → (begin room : ℕ) (entries : found.Entries) (z : Result ReadPattern Stop)
       → Stands (Op RBrace) ts entries.next → is_mapping (map entry_of entries.items.items) ≡ true → Moves after beside count n u x
@@ -236,14 +236,14 @@ module _ {S : Type 0} (after : S → Stretch → S) (u v : S) (ts : List given.T
       (rest_of (map entry_of entries.items.items))) (entries.next + 1) z
       → (i : List Terminal) (w : S) (fs : List EntryPlaces)
       → PlacedEntries KeyPattern i (begin + 1) (map entry_of entries.items.items) (seen ts entries.next) entries.next fs
-      → n ≡ count w → Kept after beside w (fronts fs) (behinds fs) u
+      → n ≡ count w → Kept after beside w (fronts fs) (followings fs) u
       → IfOk z (Whole after ts level.ClosedPattern (Op LBrace ∷ i) begin w v)
   mapping_placed beside count apart still begin room entries z y b back d m i w fs c is k =
       let es : List PatternEntry = map entry_of entries.items.items in
       let own : List Stretch = stretch begin (entries.next + 1) ∷ [] in
       let q : mapped es ≡ Some (MatchMapping (pattern_keys es) (key_patterns es) (rest_of es)) = rw b refl in
       let f = key_fronts c in
-      let e : E.pattern_keys fs ++ (E.key_patterns fs ++ own) ≡ (fronts fs ++ behinds fs) ++ own =
+      let e : E.pattern_keys fs ++ (E.key_patterns fs ++ own) ≡ (fronts fs ++ followings fs) ++ own =
       sym (append_assoc (E.pattern_keys fs) (E.key_patterns fs) own)
       ∙ ap (λ l. (l ++ E.key_patterns fs) ++ own) (sym f.0) ∙ ap (λ l. (fronts fs ++ l) ++ own) (sym f.1) in
       whole_made after w v ts level.ClosedPattern (Op LBrace ∷ i) begin room

@@ -1,4 +1,4 @@
--- What was made behind a node that was recorded, or handed on from a reader further in: the places of the whole.
+-- What was made after a node that was recorded, or handed on from a reader further in: the places of the whole.
 --
 -- Carries: each reader of patterns. On: the steps of an answer, in pyplaces.
 use Rattle.std.proofs.Common.{◌≡◌, sym, subst, ℕ, List, ◌++◌, Result, Ok, Err}
@@ -19,25 +19,25 @@ use Rattle.pyplaces.specs.PlacedPatterns.{PlacedPattern}
 use Rattle.pyplaces.specs.Recording.{Records}
 use Rattle.pyplaces.proofs.Answers.{records_more}
 
--- What is read of one thing up to a place is read of another that is the same; K says of a thing, what is behind it and the place of that.
+-- What is read of one thing up to a place is read of another that is the same; K says of a thing, what is after it and the place of that.
 pub said_as : {A : Type 0} (K : A → List Terminal → ℕ → Type 0) {e f : A} {n k : ℕ} (rest : ℕ → List Terminal) → f ≡ e → k ≡ n
     → K e (rest n) n → K f (rest k) k
 said_as K {e} {f} {n = n} rest h q p = subst (λ z. K f (rest z) z) (sym q) (subst (λ z. K z (rest n) n) (sym h) p)
 
 -- the same list in other words
 pub placed_in : {P : Type 0} {X : List Terminal → Type 0} {f : (ts : List Terminal) → ℕ → X ts → P} {i j r : List Terminal}
-    {at behind : ℕ} {ps : P} → j ≡ i → ReadAs X f i at r behind ps → ReadAs X f j at r behind ps
-placed_in {X = X} {f = f} {r = r} {at = at} {behind = behind} {ps = ps} h p = subst (λ z. ReadAs X f z at r behind ps) (sym h) p
+    {at following : ℕ} {ps : P} → j ≡ i → ReadAs X f i at r following ps → ReadAs X f j at r following ps
+placed_in {X = X} {f = f} {r = r} {at = at} {following = following} {ps = ps} h p = subst (λ z. ReadAs X f z at r following ps) (sym h) p
 
 -- a pattern of a level at the front of a list that begins at a place, and its places
 abbrev pub Whole : {S : Type 0} → (S → Stretch → S) → List given.Terminal → PatternLevel → List Terminal → ℕ → S → S → ReadPattern → Type 0
 Whole after ts l i at u v r =
     (ps : List Stretch) × PlacedPattern l i at (pattern_of r.pattern.value) (seen ts r.next) r.next ps × Records after u ps v
 
--- the same behind places that are recorded already
-abbrev pub WholeBehind : {S : Type 0} → (S → Stretch → S) → List given.Terminal → PatternLevel → List Terminal → ℕ → List Stretch → S → S
+-- the same after places that are recorded already
+abbrev pub WholeAfter : {S : Type 0} → (S → Stretch → S) → List given.Terminal → PatternLevel → List Terminal → ℕ → List Stretch → S → S
     → ReadPattern → Type 0
-WholeBehind after ts l i at ps u v r =
+WholeAfter after ts l i at ps u v r =
     (qs : List Stretch) × PlacedPattern l i at (pattern_of r.pattern.value) (seen ts r.next) r.next (ps ++ qs) × Records after u qs v
 
 module _ {S : Type 0} (after : S → Stretch → S) (u v : S) (ts : List given.Terminal) where
@@ -54,13 +54,13 @@ module _ {S : Type 0} (after : S → Stretch → S) (u v : S) (ts : List given.T
   whole_made l i at room p n (Ok r) m d k = whole_is l i at p n r m.pattern m.next_is d k
   whole_made l i at room p n (Err s) m d k = tt
 
-  pub whole_behind : {qs : List Stretch} (ps : List Stretch) (l : PatternLevel) (i : List Terminal) (at room : ℕ) (p : Pattern)
+  pub whole_after : {qs : List Stretch} (ps : List Stretch) (l : PatternLevel) (i : List Terminal) (at room : ℕ) (p : Pattern)
       (n : ℕ) (z : Result ReadPattern Stop)
       → MakesPattern room p n z → PlacedPattern l i at p (seen ts n) n (ps ++ qs) → Records after u qs v
-      → IfOk z (WholeBehind after ts l i at ps u v)
-  whole_behind {qs = qs} ps l i at room p n (Ok r) m d k =
+      → IfOk z (WholeAfter after ts l i at ps u v)
+  whole_after {qs = qs} ps l i at room p n (Ok r) m d k =
       (qs, said_as (λ x s o. PlacedPattern l i at x s o (ps ++ qs)) (seen ts) m.pattern m.next_is d, k)
-  whole_behind ps l i at room p n (Err s) m d k = tt
+  whole_after ps l i at room p n (Err s) m d k = tt
 
   -- of height 1
   pub leaf_made : {qs : List Stretch} (l : PatternLevel) (i : List Terminal) (at : ℕ) (p : Pattern) (n : ℕ) (z : Result ReadPattern Stop)
@@ -86,6 +86,6 @@ module _ {S : Type 0} (after : S → Stretch → S) (u v : S) (ts : List given.T
 
   -- with what was read in front
   pub whole_joined : {w : S} {ps : List Stretch} (l : PatternLevel) (i : List Terminal) (at : ℕ) (z : Result ReadPattern Stop)
-      → Records after u ps w → IfOk z (WholeBehind after ts l i at ps w v) → IfOk z (Whole after ts l i at u v)
+      → Records after u ps w → IfOk z (WholeAfter after ts l i at ps w v) → IfOk z (Whole after ts l i at u v)
   whole_joined {ps = ps} l i at (Ok r) k h = (ps ++ h.0, h.1, records_more k h.2)
   whole_joined l i at (Err s) k h = tt

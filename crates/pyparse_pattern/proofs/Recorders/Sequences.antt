@@ -48,9 +48,9 @@ unstarred_of at (P.next p) r h f = of_level at p (ap below_pattern h)
 unstarred_of at P.star r h f = absurd (f _ refl)
 unstarred_of at _ r h f = absurd (cc)
 
-pub unstarred : {i r : List Terminal} {at behind : ℕ} {p : Pattern} {ps : List Stretch}
-    → PlacedPattern level.StarPattern i at p r behind ps → None ≡ first_is (is_op Star) i
-    → PlacedPattern level.AsPattern i at p r behind ps
+pub unstarred : {i r : List Terminal} {at following : ℕ} {p : Pattern} {ps : List Stretch}
+    → PlacedPattern level.StarPattern i at p r following ps → None ≡ first_is (is_op Star) i
+    → PlacedPattern level.AsPattern i at p r following ps
 unstarred {r = r} {at = at} d n =
     let g = unstarred_of at d.derived r refl (subst (λ z. Lacks (Op Star) z) d.is (no_op Star n)) in
     record { front = d.front; is = d.is; ends = d.ends; derived = g.0; places_are = g.1 ∙ d.places_are }

@@ -60,7 +60,7 @@ abbrev pub LiteralRead : {S : Type 0} → (S → Stretch → S) → List given.T
 LiteralRead after ts at u v r =
     (ps : List Stretch) × PlacedLiteral (seen ts at) at (tree_of r.expr.value) (seen ts r.next) r.next ps × Records after u ps v
 
--- behind a number that is recorded already
+-- after a number that is recorded already
 abbrev pub Summed : {S : Type 0} → (S → Stretch → S) → List given.Terminal → ℕ → List Stretch → S → S → Read → Type 0
 Summed after ts at ps u v r =
     (qs : List Stretch) × PlacedLiteral (seen ts at) at (tree_of r.expr.value) (seen ts r.next) r.next (ps ++ qs) × Records after u qs v
@@ -166,8 +166,8 @@ string_of (G.set c) h at r b = absurd (cc)
 string_of (G.set_comp p c) h at r b = absurd (cc)
 string_of _ h at r b = absurd (cc)
 
-string_literal : {i r : List Terminal} {at behind : ℕ} {e : Expr} {ps : List Stretch} → Placed Atom i at e r behind ps
-    → starts_string i ≡ true → PlacedLiteral i at e r behind ps
+string_literal : {i r : List Terminal} {at following : ℕ} {e : Expr} {ps : List Stretch} → Placed Atom i at e r following ps
+    → starts_string i ≡ true → PlacedLiteral i at e r following ps
 string_literal {r = r} {at = at} p h =
     let g = string_of p.derived refl at r (ap starts_string (sym p.is) ∙ h) in
     record { front = p.front; is = p.is; ends = p.ends; derived = g.0; places_are = g.1 ∙ p.places_are }
@@ -240,9 +240,9 @@ value_of (P.dot_name {ts = ts} x p) at n w =
     )
 
 -- a value is one node more
-pub dotted_value : {f : Identifier} {i r : List Terminal} {at behind : ℕ} {e : Expr} {ps : List Stretch}
-    → PlacedDotted f i at e r behind ps → Pointed e → is_wildcard f ≡ false
-    → PlacedPattern ClosedPattern i at (MatchValue e) r behind (ps ++ (stretch at behind ∷ []))
+pub dotted_value : {f : Identifier} {i r : List Terminal} {at following : ℕ} {e : Expr} {ps : List Stretch}
+    → PlacedDotted f i at e r following ps → Pointed e → is_wildcard f ≡ false
+    → PlacedPattern ClosedPattern i at (MatchValue e) r following (ps ++ (stretch at following ∷ []))
 dotted_value {at = at} p n w =
     let g = value_of p.derived at n w in
     record { front = p.front; is = p.is; ends = p.ends; derived = g.0; places_are = g.1 ∙ (p.places_are ⊕ own p.ends) }
@@ -254,8 +254,8 @@ key_of : {f : Identifier} {ts : List Terminal} {e : Expr} (d : P.Dotted f ts e) 
 key_of P.first_name at n = absurd (n _ _ refl)
 key_of (P.dot_name x p) at n = (P.name_key x p, refl)
 
-dotted_key : {f : Identifier} {i r : List Terminal} {at behind : ℕ} {e : Expr} {ps : List Stretch}
-    → PlacedDotted f i at e r behind ps → Pointed e → PlacedKey i at e r behind ps
+dotted_key : {f : Identifier} {i r : List Terminal} {at following : ℕ} {e : Expr} {ps : List Stretch}
+    → PlacedDotted f i at e r following ps → Pointed e → PlacedKey i at e r following ps
 dotted_key {at = at} p n =
     let g = key_of p.derived at n in
     record { front = p.front; is = p.is; ends = p.ends; derived = g.0; places_are = g.1 ∙ p.places_are }

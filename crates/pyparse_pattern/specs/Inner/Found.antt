@@ -36,7 +36,7 @@ pub record EntriesAt (ts : List Terminal) (room least : ℕ) (x : Answer (List P
 abbrev pub EntriesAnswered : List Terminal → (room least : ℕ) → Answer (List PatternEntry) → Result Entries Stop → Type 0
 EntriesAnswered ts room least x z = MatchResult z (λ r. EntriesAt ts room least x r) (λ s. Failed s x)
 
--- the patterns of a sequence, behind some that were read
+-- the patterns of a sequence, after some that were read
 pub record ElementsAt (ts : List Terminal) (least : ℕ) (before : List Pattern) (x : Answer (List PatternEntry))
     (r : Patterns) : Type 0 where
   pub ahead : least ≤ r.next
@@ -48,7 +48,7 @@ pub record ElementsAt (ts : List Terminal) (least : ℕ) (before : List Pattern)
 abbrev pub ElementsAnswered : List Terminal → (least : ℕ) → List Pattern → Answer (List PatternEntry) → Result Patterns Stop → Type 0
 ElementsAnswered ts least before x z = MatchResult z (λ r. ElementsAt ts least before x r) (λ s. Failed s x)
 
--- alternatives behind some that were read
+-- alternatives after some that were read
 pub record AlternativesAt (ts : List Terminal) (least : ℕ) (p : Pattern) (x : Answer (List Pattern)) (r : Patterns) : Type 0 where
   pub ahead : least ≤ r.next
   pub within : r.next ≤ length ts
@@ -56,7 +56,7 @@ pub record AlternativesAt (ts : List Terminal) (least : ℕ) (p : Pattern) (x : 
   pub is : x ≡ Found others (seen ts r.next)
   pub gives : map pattern_of r.items.items ≡ p ∷ others
 
--- a name alone: neither a point nor a bracket is behind it; or one of them is
+-- a name alone: neither a point nor a bracket is after it; or one of them is
 pub record IsUnqualified (ts : List Terminal) (at : ℕ) : Type 0 where
   pub point : None ≡ first_is (is_op Dot) (seen ts at)
   pub bracket : None ≡ first_is (is_op LPar) (seen ts at)

@@ -7,7 +7,7 @@ use Rattle.pyparse_nodes.specs.declared.stop.Stop.{Stop}
 use Rattle.pyparse_nodes.specs.declared.stop.Stop.TheVariants as stop
 use Rattle.pyparse_pattern.specs.declared.found.ReadPattern.{ReadPattern}
 
--- a pattern, and the place behind it
+-- a pattern, and the place after it
 pub record MadePattern (room : ℕ) (p : Pattern) (next : ℕ) (r : ReadPattern) : Type 0 where
   pub pattern : pattern_of r.pattern.value ≡ p
   pub next_is : r.next ≡ next

@@ -23,7 +23,7 @@ use Rattle.pyplaces.specs.PlacedPatterns.{PlacedEntries, PlacedEntry, PlacedNumb
 use Rattle.pyplaces.specs.Recording.{Kept, Records}
 use Rattle.pyplaces.specs.Rests.{Bars}
 
--- ---- Entries: what is recorded as they are read, and what is set aside, which is the pattern behind each key.
+-- ---- Entries: what is recorded as they are read, and what is set aside, which is the pattern after each key.
 
 abbrev pub front : EntryPlaces → List Stretch
 front (E.Alone ps) = ps
@@ -31,29 +31,29 @@ front (E.Keyed ks ps) = ks
 front E.Rest = []
 front (E.Named ps) = ps
 
-abbrev pub behind : EntryPlaces → List Stretch
-behind (E.Keyed ks ps) = ps
-behind _ = []
+abbrev pub following : EntryPlaces → List Stretch
+following (E.Keyed ks ps) = ps
+following _ = []
 
 abbrev pub fronts : List EntryPlaces → List Stretch
 fronts [] = []
 fronts (e ∷ es) = front e ++ fronts es
 
-abbrev pub behinds : List EntryPlaces → List Stretch
-behinds [] = []
-behinds (e ∷ es) = behind e ++ behinds es
+abbrev pub followings : List EntryPlaces → List Stretch
+followings [] = []
+followings (e ∷ es) = following e ++ followings es
 
 pub record EntryPlaced {S : Type 0} (after beside : S → Stretch → S) (ts : List Terminal) (i : PatternItem) (at : ℕ) (r : ReadEntry)
     (old new : S) : Type 0 where
   pub place : EntryPlaces
   pub piece : PlacedEntry i (seen ts at) at (entry_of r.entry) (seen ts r.next) r.next place
-  pub kept : Kept after beside old (front place) (behind place) new
+  pub kept : Kept after beside old (front place) (following place) new
 
 pub record EntriesPlaced {S : Type 0} (after beside : S → Stretch → S) (ts : List Terminal) (i : PatternItem) (at : ℕ) (r : Entries)
     (old new : S) : Type 0 where
   pub places : List EntryPlaces
   pub listing : PlacedEntries i (seen ts at) at (map entry_of r.items.items) (seen ts r.next) r.next places
-  pub kept : Kept after beside old (fronts places) (behinds places) new
+  pub kept : Kept after beside old (fronts places) (followings places) new
 
 -- ---- Numbers with their sign.
 
@@ -64,7 +64,7 @@ pub record SignedPlaced {S : Type 0} (after : S → Stretch → S) (ts : List Te
   pub placed : PlacedNumber value (seen ts at) at (tree_of n.read.expr.value) (seen ts n.read.next) n.read.next places
   pub records : Records after old places new
 
--- ---- Patterns: of a sequence, behind some that were read; alternatives behind a first one; and what its bracket ends.
+-- ---- Patterns: of a sequence, after some that were read; alternatives after a first one; and what its bracket ends.
 
 pub record ElementsPlaced {S : Type 0} (after : S → Stretch → S) (ts : List Terminal) (at : ℕ) (before : List Pattern) (r : Patterns)
     (old new : S) : Type 0 where

@@ -25,14 +25,14 @@ same_reads d = capped_pattern (d.steps - 1) d.room
 abbrev pub field_reads : Depth → Reads
 field_reads d = capped (d.steps - 1) (d.room - 1)
 
--- behind the entries of a mapping, and of a class
+-- after the entries of a mapping, and of a class
 abbrev pub mapping_from : List PatternEntry → List Terminal → Answer Pattern
 mapping_from es r = on_first (is_op RBrace) r (λ _ r1. made (mapped es) r1) NoForm
 
 abbrev pub class_from : Expr → List PatternEntry → List Terminal → Answer Pattern
 class_from e es r = on_first (is_op RPar) r (λ _ r1. made (class_of e es) r1) NoForm
 
--- behind a `**`
+-- after a `**`
 abbrev pub rest_reads : List Terminal → Answer PatternEntry
 rest_reads i = on_first name_in i (λ x r. cond (is_wildcard x) NoForm (Found (Rest x) r)) NoForm
 
@@ -68,11 +68,11 @@ module _ (d : Depth) where
   abbrev pub star_name : List Terminal → Answer Pattern
   star_name i = reader.star_pattern (d.room - 1) (field_reads d) (inner_reads d) i
 
-  -- behind a name with points: a class pattern or a value
+  -- after a name with points: a class pattern or a value
   abbrev pub qualified : Expr → List Terminal → Answer Pattern
   qualified e r = on_first (is_op LPar) r (λ _ r1. class_reads e r1) (Found (MatchValue e) r)
 
--- behind a pattern of or_pattern
+-- after a pattern of or_pattern
 abbrev pub as_from : ℕ → Pattern → List Terminal → Answer Pattern
 as_from room p r = on_first (is_word Key.As) r (λ _ r1. on_first name_in r1 (λ x r2. cap_pattern room (made (as_named p x) r2)) NoForm)
     (Found p r)

@@ -1,5 +1,5 @@
 -- Carries: the readers of headers. On: what is made of parameters and
--- arguments behind their bracket.
+-- arguments after their bracket.
 use Rattle.std.proofs.Common.{◌≡◌, refl, ℕ, List, [], ◌∷◌, Option, Some, None, Bool, true, false, cond}
 use Rattle.pylex_lexeme.specs.declared.kinds.Exact.TheVariants.{RPar}
 use Rattle.pytree_node.specs.Trees.{Arguments, Exprs, Keywords}
@@ -12,7 +12,7 @@ use Rattle.pygrammar.specs.Reader.{Answer, Found, NoForm, TooDeep, and_then, lis
 use Rattle.pyparse_reads.specs.declared.depth.Depth.{Depth}
 use Rattle.pyparse_reads.specs.Readings.{read_arguments, read_parameters, reads}
 
--- no form behind a sign, and none without it
+-- no form after a sign, and none without it
 never : {B : Type 0} (f : Terminal → Option ℕ) (r : List Terminal) → ◌≡◌ {A = Answer B} (on_first f r (λ _ _. NoForm) NoForm) NoForm
 never f [] = refl
 never {B = B} f (t ∷ r) = go (f t)

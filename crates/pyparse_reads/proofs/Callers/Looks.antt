@@ -33,7 +33,7 @@ seen_next ts n = drop-drop 1 n (map _ ts)
 pub seen_length : (ts : List given.Terminal) (n : ℕ) → length (seen ts n) ≡ length ts - n
 seen_length ts n = length-drop n (map _ ts) ∙ ap (λ z. z - n) (length-map ts _)
 
--- the first terminal of a place, and those behind it
+-- the first terminal of a place, and those after it
 pub front : (ts : List given.Terminal) (at : ℕ) (t : Terminal) → first_of (seen ts at) ≡ Some t → seen ts at ≡ t ∷ seen ts (at + 1)
 front = Places.front
 
@@ -91,7 +91,7 @@ name_miss {B} s ts at hit miss h = go (seen ts at) h.is
 
 -- equal places
 pub with_places : {P : Type 0} {X : List Terminal → Type 0} {f : (ts : List Terminal) → ℕ → X ts → P} {i r : List Terminal}
-    {at behind : ℕ} {ps qs : P} → ps ≡ qs → ReadAs X f i at r behind ps → ReadAs X f i at r behind qs
+    {at following : ℕ} {ps qs : P} → ps ≡ qs → ReadAs X f i at r following ps → ReadAs X f i at r following qs
 with_places h p = record { front = p.front; is = p.is; ends = p.ends; derived = p.derived; places_are = p.places_are ∙ h }
 
 pub records_as : {S : Type 0} {after : S → Stretch → S} {u v : S} {ps qs : List Stretch} → ps ≡ qs → Records after u qs v
@@ -100,8 +100,8 @@ records_as {after = after} {u = u} h r = record { is = r.is ∙ ap (λ z. afters
 
 -- the same number before it
 pub placed_at : {P : Type 0} {X : List Terminal → Type 0} {f : (ts : List Terminal) → ℕ → X ts → P} {i r : List Terminal}
-    {at n behind : ℕ} {ps : P} → at ≡ n → ReadAs X f i at r behind ps → ReadAs X f i n r behind ps
-placed_at {X = X} {f = f} {i = i} {r = r} {behind = behind} {ps = ps} h p = subst (λ z. ReadAs X f i z r behind ps) h p
+    {at n following : ℕ} {ps : P} → at ≡ n → ReadAs X f i at r following ps → ReadAs X f i n r following ps
+placed_at {X = X} {f = f} {i = i} {r = r} {following = following} {ps = ps} h p = subst (λ z. ReadAs X f i z r following ps) h p
 
 pub none_first : {A : Type 0} (f : Terminal → Option A) {r : List Terminal} → None ≡ first_is f r → (t : Terminal) (s : List Terminal)
     → r ≡ t ∷ s → f t ≡ None

@@ -42,7 +42,7 @@ name_stands f ts n h =
     let v = name_is w.0 f w.2 in
     record { name = v.0; is = w.1 ∙ ap (λ t. t ∷ seen ts (n + 1)) v.1; form = v.2 }
 
--- no NAME with this sign behind it stands there
+-- no NAME with this sign after it stands there
 pub not_named : (s : Exact) (ts : List given.Terminal) (at : ℕ) (x : Spelled) (r : List Terminal) → IsNotNamed s ts at
     → seen ts at ≡ Ident x ∷ (Op s ∷ r) → ⊥
 not_named s ts at x r h q = go (h.is ∙ ap (λ i. on_name_with s i (λ y z. Some y) None) q)

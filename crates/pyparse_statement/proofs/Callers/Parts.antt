@@ -1,4 +1,4 @@
--- Parts that were read one behind the other.
+-- Parts that were read one after the other.
 --
 -- Carries: the readers of statements and headers. On: Answers.
 use Rattle.std.proofs.Common.{◌≡◌, ap, ◌∙◌, arith, ℕ, ◌+◌, ◌≤◌, List, Result, Ok, Err, Some}
@@ -17,17 +17,17 @@ pub answered_as : {A R : Type 0} (ts : List given.Terminal) (least low : ℕ) (x
 answered_as ts least low x y value next (Ok r) q le h = record { ahead = omega (arith, le, h.ahead); within = h.within; is = q ∙ h.is }
 answered_as ts least low x y value next (Err s) q le h = rw q h
 
--- what is read behind a part
+-- what is read after a part
 module _ {A B : Type 0} (ts : List given.Terminal) (least : ℕ) (x : Answer A) (k : A → List Terminal → Answer B) (a : A) (n : ℕ)
     (f : PartAt ts least x a n) where
-  pub behind : and_then x k ≡ k a (seen ts n)
-  behind = ap (λ y. and_then y k) f.is
+  pub following : and_then x k ≡ k a (seen ts n)
+  following = ap (λ y. and_then y k) f.is
 
-  pub failed_behind : (e : Stop) → Failed e (k a (seen ts n)) → Failed e (and_then x k)
-  failed_behind e h = rw behind h
+  pub failed_after : (e : Stop) → Failed e (k a (seen ts n)) → Failed e (and_then x k)
+  failed_after e h = rw following h
 
-  pub found_behind : (low : ℕ) (b : B) (m : ℕ) → PartAt ts low (k a (seen ts n)) b m → least ≤ m → PartAt ts least (and_then x k) b m
-  found_behind low b m h le = record { ahead = le; within = h.within; is = behind ∙ h.is }
+  pub found_after : (low : ℕ) (b : B) (m : ℕ) → PartAt ts low (k a (seen ts n)) b m → least ≤ m → PartAt ts least (and_then x k) b m
+  found_after low b m h le = record { ahead = le; within = h.within; is = following ∙ h.is }
 
 -- a name at a place
 pub name_next : {B : Type 0} (ts : List given.Terminal) (at : ℕ) (x : List ℕ) (hit : List ℕ → List Terminal → B) (miss : B)

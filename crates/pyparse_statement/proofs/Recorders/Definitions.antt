@@ -1,4 +1,4 @@
--- The headers of `def` and `class`: the places of parameters of types are set aside, and taken back behind the others.
+-- The headers of `def` and `class`: the places of parameters of types are set aside, and taken back after the others.
 --
 -- Carries: definitions.rt. On: Looks; Asides and Headers of pyplaces.
 use Rattle.std.proofs.Common.{◌≡◌, refl, sym, ap, subst, ◌∙◌, ℕ, ◌+◌, List, [], ◌∷◌, ◌++◌, map, Some, Bool, Result, Ok, Err}
@@ -37,7 +37,7 @@ use Rattle.pyplaces.proofs.Forms.Headers.{placed_bases, placed_class_line, place
 use Rattle.pyparse_statement.specs.declared.headers.found.ReadHeader.{ReadHeader}
 use Rattle.pyparse_statement.specs.declared.statements.found.ReadTypeParams.{ReadTypeParams}
 use Rattle.pyparse_statement.specs.PlacedHeaders.{ClassPlaced, FunctionPlaced, HeaderPlaced}
-use Rattle.pyparse_statement.specs.PlacedParts.{BehindPlaced, TypeParamsPlaced}
+use Rattle.pyparse_statement.specs.PlacedParts.{AfterPlaced, TypeParamsPlaced}
 use Rattle.pyparse_statement.proofs.headers.DefinitionSteps.{listed_all}
 use Rattle.pyparse_statement.proofs.Callers.Looks.{begun, moved, name_stands}
 
@@ -60,7 +60,7 @@ module _ {S : Type 0} {after beside : S → Stretch → S} (count aside_count : 
       → aside ≡ aside_count start → HeaderPlaced after count prof ts from start new r
   header_as {r = r} {ps} {qs} {start} {old} {new} {tail} p k b q m a = record {
     before = ps;
-    behind = qs ++ tail;
+    following = qs ++ tail;
     header = λ z e. p;
     before_is = b ∙ counted k;
     records = subst (λ l. Records after start l new) (append_assoc ps qs tail)
@@ -75,7 +75,7 @@ module _ {S : Type 0} {after beside : S → Stretch → S} (count aside_count : 
       (parameters : ReadParameters) (returns : Optional) (before : ℕ) (z : Result ReadHeader Stop) → at ≡ types.next + 1
       → ParametersPlaced after ts at (arguments_of parameters.arguments) parameters.next u v
       → Stands (Op RPar) ts parameters.next → before ≡ count v
-      → BehindPlaced after (Op RArrow) Expression ts (parameters.next + 1) v w returns → Moves after beside aside_count aside w x
+      → AfterPlaced after (Op RArrow) Expression ts (parameters.next + 1) v w returns → Moves after beside aside_count aside w x
       → MatchResult z (λ r. header_of r.header ≡ def_header (function_head is_async name (map type_param_of types.params.items)
       (arguments_of parameters.arguments) (boxed_of returns.expr))) (λ s. s ≡ stop.Memory)
       → MatchResult z (λ r. r.next ≡ returns.next) (λ s. s ≡ stop.Memory) → MatchResult z (λ r. r.before ≡ before) (λ s. s ≡ stop.Memory)
@@ -125,7 +125,7 @@ module _ {S : Type 0} {after beside : S → Stretch → S} (count aside_count : 
       (h ∙ ap (λ g. def_header (class_head g (map type_param_of types.params.items) [] no_keyword)) (sym f)) n
       (placed_class_line s refl t placed_no_bases)) k (i ∙ b) records_none m a
 
--- ---- Behind the word: the NAME, and the parameters of types, which are set aside.
+-- ---- After the word: the NAME, and the parameters of types, which are set aside.
 module _ {S : Type 0} {after beside : S → Stretch → S} {count : S → ℕ} {ts : List given.Terminal} {at : ℕ} {u v w : S}
     (aside_count : S → ℕ) (x : S) (name : Identifier) (n : Some name ≡ first_is name_in (seen ts at))
     (types : ReadTypeParams) (aside recorded : ℕ)

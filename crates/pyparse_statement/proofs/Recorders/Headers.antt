@@ -56,13 +56,13 @@ use Rattle.pyparse_statement.proofs.Recorders.Parts.{commaed_ended}
 use Rattle.pyparse_statement.proofs.Recorders.Says.{as_bare}
 
 module _ {S : Type 0} {after : S → Stretch → S} {count : S → ℕ} {ts : List given.Terminal} where
-  -- a header with nothing behind the body
+  -- a header with nothing after the body
   pub plain_of : {prof : Profile} {from n : ℕ} {r : ReadHeader} {h : Header} {ps : List Stretch} {u v : S} → header_of r.header ≡ h
       → r.next ≡ n → r.before ≡ count v → PlacedHeader prof (seen ts from) from h (seen ts n) n (plain_header ps) → Records after u ps v
       → HeaderPlaced after count prof ts from u v r
   plain_of {prof} {from} {ps = ps} {u} h q b p k = record {
     before = ps;
-    behind = [];
+    following = [];
     header = λ z e. moved (seen ts) (λ y s n. PlacedHeader prof (seen ts from) from y s n (form_places ps [] [])) h q p;
     before_is = b ∙ ap count k.is;
     records = record { is = k.is ∙ ap (λ l. afters after u l) (sym (append-nil ps)) };
@@ -113,7 +113,7 @@ module _ {S : Type 0} {after : S → Stretch → S} {count : S → ℕ} {ts : Li
     records = k;
   }
 
-  -- its count, as of the recorder behind it
+  -- its count, as of the recorder after it
   counted : {star : Bool} {at : ℕ} {u v : S} {r : ReadHeader} (e : ExceptPlaced after count star ts at u v r) → r.before ≡ count v
   counted e = e.before_is ∙ ap count (sym e.records.is)
 
@@ -133,7 +133,7 @@ module _ {S : Type 0} {after : S → Stretch → S} {count : S → ℕ} {ts : Li
       → AsyncHeader after count is_async Key.With ts at u v (Ok r)
   with_placed {is_async} {u = u} {items = items} {r} p h n b prof from middle d a s = record {
     before = p.places;
-    behind = [];
+    following = [];
     header = λ z e. moved (seen ts) (λ y i m. PlacedHeader prof (seen ts from) from y i m (form_places p.places [] [])) h n
         (placed_with_line d s.is (read_from (seen ts) (sym a) (p.part z (sym (ap (λ m. seen ts m) n) ∙ e))));
     before_is = b ∙ ap count p.records.is;

@@ -127,7 +127,7 @@ module _ {S : Type 0} {after : S → Stretch → S} {ts : List given.Terminal} {
       records = records_more g.records (records_node q);
     }
 
-    -- no comma behind the last
+    -- no comma after the last
     pub aliases_last : {r : ReadAliases} (bracketed : Bool) → AliasesGrown after ts at u v xs n
         → PartAt ts n (name_alias (seen ts n)) a k → w ≡ after v (stretch n k) → map alias_of r.aliases.items ≡ xs ++ (a ∷ []) → r.next ≡ k
         → AliasesPlaced after bracketed ts at u w r
@@ -141,7 +141,7 @@ module _ {S : Type 0} {after : S → Stretch → S} {ts : List given.Terminal} {
         go true = commaed_ended xs a (commaed_with g.ended (name_placed p))
         go false = commas_last g.bare (name_placed p)
 
-    -- one behind it, in brackets
+    -- one after it, in brackets
     pub aliases_end : {r : ReadAliases} (rest : List Terminal) (bracketed : Bool) → AliasesGrown after ts at u v xs n
         → PartAt ts n (name_alias (seen ts n)) a k → w ≡ after v (stretch n k) → Stands (Op Comma) ts k → false ≡ more_names bracketed rest
         → map alias_of r.aliases.items ≡ xs ++ (a ∷ []) → r.next ≡ k + 1 → AliasesPlaced after bracketed ts at u w r
@@ -156,7 +156,7 @@ module _ {S : Type 0} {after : S → Stretch → S} {ts : List given.Terminal} {
         go true m = commaed_ended xs a (commaed_end (commaed_turn g.ended (name_placed p) s.is))
         go false m = absurd (cc)
 
--- ---- The names behind an `import`.
+-- ---- The names after an `import`.
 module _ {S : Type 0} (after : S → Stretch → S) (u v : S) where
   pub star_names : {ts : List given.Terminal} {at : ℕ} (z : Result ReadAliases Stop) → Stands (Op Star) ts at
       → v ≡ after u (stretch at (at + 1))

@@ -20,15 +20,15 @@ use Rattle.pyparse_nodes.specs.declared.stop.Stop.{Stop}
 use Rattle.pyparse_nodes.specs.Views.{Stands, seen}
 use Rattle.pyplaces.specs.ExpressionPlaces.{del_target_places}
 use Rattle.pyplaces.specs.Placed.{Placed}
-use Rattle.pyplaces.specs.PlacedForms.{Commaed, PlacedBehind, PlacedEnded, PlacedOptional}
+use Rattle.pyplaces.specs.PlacedForms.{Commaed, PlacedAfter, PlacedEnded, PlacedOptional}
 use Rattle.pyplaces.specs.Recording.{Records}
 use Rattle.pyplaces.specs.Stretches.{Stretch}
 use Rattle.pyplaces.proofs.Answers.{read_as, records_more, records_none}
 use Rattle.pyplaces.proofs.Expressions.Readings.{placed_del_target}
-use Rattle.pyplaces.proofs.Forms.Parts.{commaed_end, commaed_some, commaed_turn, commaed_with, placed_behind, placed_given, placed_left_out}
-use Rattle.pyplaces.proofs.Forms.Parts.{placed_none_behind}
+use Rattle.pyplaces.proofs.Forms.Parts.{commaed_end, commaed_some, commaed_turn, commaed_with, placed_after, placed_given, placed_left_out}
+use Rattle.pyplaces.proofs.Forms.Parts.{placed_none_after}
 use Rattle.pyplaces.proofs.Loops.{Grows, grows_start}
-use Rattle.pyparse_statement.specs.PlacedParts.{AllDeletedPlaced, BehindPlaced, DeletedPlaced, OptionalPlaced}
+use Rattle.pyparse_statement.specs.PlacedParts.{AllDeletedPlaced, AfterPlaced, DeletedPlaced, OptionalPlaced}
 use Rattle.pyparse_statement.proofs.Callers.Looks.{moved}
 
 -- the last of a list is there, so the list is some
@@ -57,20 +57,20 @@ module _ {S : Type 0} {after : S → Stretch → S} {ts : List given.Terminal} {
       records = k;
     }
 
-    pub behind_none : {t : Terminal} {r : Optional} {u : S} → boxed_of r.expr ≡ None → r.next ≡ at → BehindPlaced after t l ts at u u r
-    behind_none {t} h q = record {
+    pub after_none : {t : Terminal} {r : Optional} {u : S} → boxed_of r.expr ≡ None → r.next ≡ at → AfterPlaced after t l ts at u u r
+    after_none {t} h q = record {
       places = [];
-      part = moved (seen ts) (λ o s n. PlacedBehind t l (seen ts at) at o s n []) h q placed_none_behind;
+      part = moved (seen ts) (λ o s n. PlacedAfter t l (seen ts at) at o s n []) h q placed_none_after;
       records = records_none;
     }
 
-    pub behind_one : {t : Terminal} {ps : List Stretch} {r : Optional} {u v : S} (e : Read)
+    pub following_one : {t : Terminal} {ps : List Stretch} {r : Optional} {u v : S} (e : Read)
         → boxed_of r.expr ≡ Some (tree_of e.expr.value) → r.next ≡ e.next → Stands t ts at
         → Placed l (seen ts (at + 1)) (at + 1) (tree_of e.expr.value) (seen ts e.next) e.next ps → Records after u ps v
-        → BehindPlaced after t l ts at u v r
-    behind_one {t} {ps = ps} e h q s p k = record {
+        → AfterPlaced after t l ts at u v r
+    following_one {t} {ps = ps} e h q s p k = record {
       places = ps;
-      part = moved (seen ts) (λ o s n. PlacedBehind t l (seen ts at) at o s n ps) h q (placed_behind s.is p);
+      part = moved (seen ts) (λ o s n. PlacedAfter t l (seen ts at) at o s n ps) h q (placed_after s.is p);
       records = k;
     }
 

@@ -40,7 +40,7 @@ use Rattle.pyplaces.proofs.Loops.{Grows, grows_start}
 use Rattle.pyparse_statement.specs.declared.statements.found.ReadStatement.{ReadStatement}
 use Rattle.pyparse_statement.specs.declared.statements.found.ReadTypeParam.{ReadTypeParam}
 use Rattle.pyparse_statement.specs.declared.statements.found.ReadTypeParams.{ReadTypeParams}
-use Rattle.pyparse_statement.specs.PlacedParts.{BehindPlaced, ParamsPlaced, TypeParamPlaced, TypeParamsPlaced}
+use Rattle.pyparse_statement.specs.PlacedParts.{AfterPlaced, ParamsPlaced, TypeParamPlaced, TypeParamsPlaced}
 use Rattle.pyparse_statement.specs.PlacedStatements.{AliasPlaced}
 use Rattle.pyparse_statement.specs.Inner.Types.{HasTypeName}
 use Rattle.pyparse_statement.proofs.Callers.Looks.{moved, name_stands, recorded_more}
@@ -49,7 +49,7 @@ use Rattle.pyparse_statement.proofs.Recorders.Parts.{commaed_ended}
 -- ---- One parameter.
 module _ {S : Type 0} {after : S → Stretch → S} {ts : List given.Terminal} {at : ℕ} where
   pub type_var_placed : {bound : Optional} {u v : S} (name : Identifier) (z : Result ReadTypeParam Stop)
-      → BehindPlaced after (Op Colon) Expression ts at u v bound
+      → AfterPlaced after (Op Colon) Expression ts at u v bound
       → MatchResult z (λ r. type_param_of r.param ≡ TypeVar name (boxed_of bound.expr)) (λ s. s ≡ stop.Memory)
       → MatchResult z (λ r. r.next ≡ bound.next) (λ s. s ≡ stop.Memory)
       → (from : ℕ) (x : Spelled) → at ≡ from + 1 → seen ts from ≡ Ident x ∷ seen ts at → x.form ≡ name
@@ -196,7 +196,7 @@ pub record TypeAt (prof : Profile) (name : Identifier) (ts : List given.Terminal
   pub is : seen ts at ≡ type_word form ∷ (Ident spelled ∷ seen ts (at + 2))
   pub named : spelled.form ≡ name
 
--- an answer that tells the NAME and what stands behind it
+-- an answer that tells the NAME and what stands after it
 abbrev hit : Identifier → List Terminal → Answer Stmt
 hit x r = Found (Trees.Global (x ∷ [])) r
 
@@ -210,10 +210,10 @@ type_stands prof name ts at h = by (has_types prof) refl (seen ts at) refl (h.is
     same_rest : (x y : Identifier) (r s : List Terminal) → hit x r ≡ hit y s → r ≡ s
     same_rest x y r s q = cc
 
-    behind : (t : Terminal) (n : ℕ) (r : List Terminal) → has_types prof ≡ true → is_type t ≡ Some n → seen ts at ≡ t ∷ r
+    following : (t : Terminal) (n : ℕ) (r : List Terminal) → has_types prof ≡ true → is_type t ≡ Some n → seen ts at ≡ t ∷ r
         → on_first name_in r hit NoForm ≡ hit name (seen ts (at + 2)) → TypeAt prof name ts at
-    behind t n [] b e i q = absurd (cc)
-    behind t n (Ident x ∷ r) b e i q =
+    following t n [] b e i q = absurd (cc)
+    following t n (Ident x ∷ r) b e i q =
         let w = type_is t n e in
         record {
           types = b;
@@ -223,7 +223,7 @@ type_stands prof name ts at h = by (has_types prof) refl (seen ts at) refl (h.is
               ∙ ap (λ z. type_word w.0 ∷ (Ident x ∷ z)) (same_rest x.form name r (seen ts (at + 2)) q));
           named = same_name x.form name r (seen ts (at + 2)) q;
         }
-    behind t n (_ ∷ r) b e i q = absurd (cc)
+    following t n (_ ∷ r) b e i q = absurd (cc)
 
     first : (i : List Terminal) → has_types prof ≡ true → seen ts at ≡ i
         → on_first is_type i (λ _ r. on_first name_in r hit NoForm) NoForm ≡ hit name (seen ts (at + 2)) → TypeAt prof name ts at
@@ -232,7 +232,7 @@ type_stands prof name ts at h = by (has_types prof) refl (seen ts at) refl (h.is
       where
         go : (o : Option ℕ) → is_type t ≡ o → on_some o (λ _. on_first name_in r hit NoForm) NoForm ≡ hit name (seen ts (at + 2))
             → TypeAt prof name ts at
-        go (Some n) f q = behind t n r b f e q
+        go (Some n) f q = following t n r b f e q
         go None f q = absurd (cc)
 
     by : (b : Bool) → has_types prof ≡ b → (i : List Terminal) → seen ts at ≡ i

@@ -1,4 +1,4 @@
--- Statements that begin with a value, and statements one behind the other.
+-- Statements that begin with a value, and statements one after the other.
 --
 -- Carries: values.rt, plain_statement, read_statements. On: Looks; Simple and Values of pyplaces.
 use Rattle.std.proofs.Common.{◌≡◌, refl, sym, ap, subst, ◌∙◌, arith, ℕ, ◌+◌, List, [], ◌∷◌, ◌++◌, length, map, Some}
@@ -28,7 +28,7 @@ use Rattle.pyparse_nodes.specs.declared.found.Read.{Read}
 use Rattle.pyparse_nodes.specs.declared.stop.Stop.{Stop}
 use Rattle.pyparse_nodes.specs.Views.{IsNamed, IsNotNamed, Stands, first_is, seen}
 use Rattle.pyplaces.specs.Placed.{Placed}
-use Rattle.pyplaces.specs.PlacedForms.{PlacedBehind, PlacedFields, PlacedSimples, Semicolons}
+use Rattle.pyplaces.specs.PlacedForms.{PlacedAfter, PlacedFields, PlacedSimples, Semicolons}
 use Rattle.pyplaces.specs.Recording.{Records}
 use Rattle.pyplaces.specs.Stretches.{Stretch, stretch}
 use Rattle.pyplaces.proofs.Answers.{records_more, records_node, records_none}
@@ -41,8 +41,8 @@ use Rattle.pyplaces.proofs.Loops.{Grows, grows_start}
 use Rattle.pyparse_reads.proofs.Callers.Looks.{some_first, placed_at}
 use Rattle.pyparse_statement.specs.declared.statements.found.ReadStatement.{ReadStatement}
 use Rattle.pyparse_statement.specs.declared.statements.found.ReadStatements.{ReadStatements}
-use Rattle.pyparse_statement.specs.PlacedParts.{BehindPlaced}
-use Rattle.pyparse_statement.specs.PlacedStatements.{AliasPlaced, AnnotationPlaced, FieldsBehind, FieldsPlaced, SimplesPlaced}
+use Rattle.pyparse_statement.specs.PlacedParts.{AfterPlaced}
+use Rattle.pyparse_statement.specs.PlacedStatements.{AliasPlaced, AnnotationPlaced, FieldsAfter, FieldsPlaced, SimplesPlaced}
 use Rattle.pyparse_statement.specs.PlacedStatements.{Targeted, TargetsPlaced, ValuePlaced, targeted, untargeted}
 use Rattle.pyparse_statement.specs.Inner.Types.{HasTypeName}
 use Rattle.pyparse_statement.proofs.Callers.Looks.{moved, not_named, recorded_more}
@@ -88,16 +88,16 @@ targets_before (targets c) = targeted c
 -- with places that are recorded already
 pub fields_joined : {S : Type 0} {after : S → Stretch → S} {ps : List Stretch} {u v : S} (ts : List given.Terminal) (prof : Profile)
     (at : ℕ) (w : S) (z : Result ReadStatement Stop) → Records after u ps v
-    → IfOk z (FieldsBehind after prof ts at ps v w) → IfOk z (FieldsPlaced after prof ts at u w)
+    → IfOk z (FieldsAfter after prof ts at ps v w) → IfOk z (FieldsPlaced after prof ts at u w)
 fields_joined {ps = ps} ts prof at w (Ok r) k p = record { places = ps ++ p.places; fields = p.fields; records = records_more k p.records }
 fields_joined ts prof at w (Err o) k p = tt
 
 module _ {S : Type 0} {after : S → Stretch → S} {ts : List given.Terminal} where
-  -- the fields of a statement, which is this one, behind places that are recorded already
-  pub fields_behind : {prof : Profile} {from n : ℕ} {r : ReadStatement} {y : Stmt} {qs : List Stretch} {u v : S} (ps : List Stretch)
+  -- the fields of a statement, which is this one, after places that are recorded already
+  pub fields_after : {prof : Profile} {from n : ℕ} {r : ReadStatement} {y : Stmt} {qs : List Stretch} {u v : S} (ps : List Stretch)
       → stmt_of r.statement ≡ y → r.next ≡ n → PlacedFields prof (seen ts from) from y (seen ts n) n (ps ++ qs) → Records after u qs v
-      → FieldsBehind after prof ts from ps u v r
-  fields_behind {prof} {from} {qs = qs} ps h q p k = record {
+      → FieldsAfter after prof ts from ps u v r
+  fields_after {prof} {from} {qs = qs} ps h q p k = record {
     places = qs;
     fields = moved (seen ts) (λ y s n. PlacedFields prof (seen ts from) from y s n (ps ++ qs)) h q p;
     records = k;
@@ -106,7 +106,7 @@ module _ {S : Type 0} {after : S → Stretch → S} {ts : List given.Terminal} w
   -- ---- Annotations.
   pub annotation_placed : {target : Expr} {simple : Bool} {at : ℕ} {u v w : S} {ps : List Stretch} {value : Optional} {r : ReadStatement}
       (e : Read) → Placed Expression (seen ts at) at (tree_of e.expr.value) (seen ts e.next) e.next ps → Records after u ps v
-      → BehindPlaced after (Op Equal) Value ts e.next v w value
+      → AfterPlaced after (Op Equal) Value ts e.next v w value
       → stmt_of r.statement ≡ AnnAssign target (tree_of e.expr.value) (boxed_of value.expr) simple → r.next ≡ value.next
       → AnnotationPlaced after target simple ts at u w r
   annotation_placed {ps = ps} {value} e p k b h q = record {
@@ -117,7 +117,7 @@ module _ {S : Type 0} {after : S → Stretch → S} {ts : List given.Terminal} w
     next = e.next;
     statement = h;
     first = p;
-    second = moved (seen ts) (λ o s n. PlacedBehind (Op Equal) Value (seen ts e.next) e.next o s n b.places) refl q b.part;
+    second = moved (seen ts) (λ o s n. PlacedAfter (Op Equal) Value (seen ts e.next) e.next o s n b.places) refl q b.part;
     records = records_more k b.records;
   }
 
@@ -130,7 +130,7 @@ module _ {S : Type 0} {after : S → Stretch → S} {ts : List given.Terminal} w
   augmented_placed {value = value} {op} target right s t q k h e prof at ps n p =
       let w = some_first augmented_sign op ts value.next s in
       let z = sign_of w.0 op w.2 in
-      fields_behind ps h e (placed_augmented_assign {z = z.0} (single_target p t.is) z.2
+      fields_after ps h e (placed_augmented_assign {z = z.0} (single_target p t.is) z.2
       (w.1 ∙ ap (λ x. x ∷ seen ts (value.next + 1)) z.1) q) k
 
 module _ {S : Type 0} (after : S → Stretch → S) (u w : S) where
@@ -156,13 +156,13 @@ module _ {S : Type 0} (after : S → Stretch → S) (u w : S) where
       → ValuePlaced after ts value u w z
   value_annotated {ts} value target (Ok r) s t a prof at ps n p = go (is_name (tree_of target.expr.value)) refl
     where
-      go : (b : Bool) → is_name (tree_of target.expr.value) ≡ b → FieldsBehind after prof ts at ps u w r
-      go false k = fields_behind ps a.statement refl (placed_annotated_part (single_target p t.is) k s.is a.first a.second) a.records
+      go : (b : Bool) → is_name (tree_of target.expr.value) ≡ b → FieldsAfter after prof ts at ps u w r
+      go false k = fields_after ps a.statement refl (placed_annotated_part (single_target p t.is) k s.is a.first a.second) a.records
       go true k =
           let b : is_name (tree_of value.expr.value) ≡ true = stored_name (tree_of value.expr.value) (tree_of target.expr.value) t.is k in
           let g = grouped_name p t.is b (λ x q. not_named Colon ts at x (seen ts (value.next + 1)) n
           (q ∙ ap (λ r. Ident x ∷ r) s.is)) in
-          fields_behind ps a.statement refl
+          fields_after ps a.statement refl
           (placed_annotated_group g.open_is g.target g.close_is s.is
           (placed_at (ap (λ m. m + 1) (sym g.ends)) a.first) a.second) a.records
   value_annotated value target (Err o) s t a prof at ps n p = tt
@@ -183,7 +183,7 @@ module _ {S : Type 0} (after : S → Stretch → S) (u : S) (ts : List given.Ter
   alone_placed : (r : ReadStatement) → stmt_of r.statement ≡ ExprOf (tree_of value.expr.value)
       → r.next ≡ value.next → ValuePlaced after ts value u u (Ok r)
   alone_placed r h e prof at ps n p =
-      fields_behind ps h e (subst (λ l. PlacedFields prof (seen ts at) at (ExprOf (tree_of value.expr.value)) (seen ts value.next)
+      fields_after ps h e (subst (λ l. PlacedFields prof (seen ts at) at (ExprOf (tree_of value.expr.value)) (seen ts value.next)
       value.next l) (sym (append-nil ps)) (placed_value p)) records_none
 
   -- with no targets in front
@@ -193,7 +193,7 @@ module _ {S : Type 0} (after : S → Stretch → S) (u : S) (ts : List given.Ter
       let w = untargeted_is (map tree_of targets.exprs.items) h g in
       let q : Placed Value (seen ts at) at (tree_of value.expr.value) (seen ts value.next) value.next qs =
       placed_at (sym w.1) (subst (λ i. Placed Value i middle (tree_of value.expr.value) (seen ts value.next) value.next qs) (sym w.0) p) in
-      subst (λ l. IfOk z (FieldsBehind after prof ts at l u v)) (sym (ap (λ l. l ++ qs) w.2)) (f prof at qs n q)
+      subst (λ l. IfOk z (FieldsAfter after prof ts at l u v)) (sym (ap (λ l. l ++ qs) w.2)) (f prof at qs n q)
 
   pub value_alone : (r : ReadStatement) → map tree_of targets.exprs.items ≡ [] → stmt_of r.statement ≡ ExprOf (tree_of value.expr.value)
       → r.next ≡ value.next → TargetsPlaced after ts targets value u u (Ok r)
@@ -233,7 +233,7 @@ module _ {S : Type 0} {after : S → Stretch → S} {ts : List given.Terminal} {
   assignment_placed {items} {qs = qs} x value z g p k f prof n = fields_joined ts prof at x z (records_more g.records k)
       (f prof at items.next g.places qs n (targets_before (assigned_end g.grows)) p)
 
--- ---- The statement `type`, behind its word and its NAME.
+-- ---- The statement `type`, after its word and its NAME.
 pub type_placed : {S : Type 0} (after : S → Stretch → S) (u v w : S) {ts : List given.Terminal} {at : ℕ} (prof : Profile)
     (name : Identifier) (z : Result ReadStatement Stop) → HasTypeName prof name ts at
     → v ≡ after u (stretch (at + 1) (at + 2)) → AliasPlaced after prof ts name (at + 2) v w z → IfOk z (FieldsPlaced after prof ts at u w)
@@ -243,7 +243,7 @@ type_placed after u v w {ts} {at} prof name z h k f =
     fields_joined ts prof at w z (records_node (k ∙ ap (λ n. after u (stretch (at + 1) n)) two))
     (f at t.form t.spelled two t.types t.is t.named)
 
--- ---- Statements one behind the other.
+-- ---- Statements one after the other.
 pub record SimplesGrown {S : Type 0} (after : S → Stretch → S) (prof : Profile) (ts : List given.Terminal) (at : ℕ) (old new : S)
     (xs : List Stmt) (next : ℕ) : Type 0 where
   pub places : List Stretch

@@ -28,7 +28,7 @@ use Rattle.pyplaces.proofs.Answers.{read_from, records_more, records_none}
 use Rattle.pyplaces.proofs.Forms.Simple.{placed_assert, placed_break, placed_continue, placed_delete, placed_global, placed_nonlocal}
 use Rattle.pyplaces.proofs.Forms.Simple.{placed_pass, placed_raise, placed_raise_alone, placed_return}
 use Rattle.pyparse_statement.specs.declared.statements.found.ReadStatement.{ReadStatement}
-use Rattle.pyparse_statement.specs.PlacedParts.{AllDeletedPlaced, BehindPlaced, OptionalPlaced}
+use Rattle.pyparse_statement.specs.PlacedParts.{AllDeletedPlaced, AfterPlaced, OptionalPlaced}
 use Rattle.pyparse_statement.specs.PlacedStatements.{FieldsPlaced, WordPlaced}
 use Rattle.pyparse_statement.specs.Inner.Simple.{globals, nonlocals}
 use Rattle.pyparse_statement.proofs.Callers.Looks.{moved}
@@ -66,7 +66,7 @@ module _ {S : Type 0} {after : S → Stretch → S} {ts : List given.Terminal} w
 
     pub raise_placed : {w : S} {ps : List Stretch} {o : Optional} {r : ReadStatement} (e : Read)
         → Placed Expression (seen ts at) at (tree_of e.expr.value) (seen ts e.next) e.next ps → Records after u ps w
-        → BehindPlaced after (Word Key.From) Expression ts e.next w v o
+        → AfterPlaced after (Word Key.From) Expression ts e.next w v o
         → stmt_of r.statement ≡ Raise (Some (tree_of e.expr.value)) (boxed_of o.expr) → r.next ≡ o.next
         → WordPlaced after Key.Raise ts at u v (Ok r)
     raise_placed e p k o h n prof from q s =
@@ -74,7 +74,7 @@ module _ {S : Type 0} {after : S → Stretch → S} {ts : List given.Terminal} w
 
     pub assert_placed : {w : S} {ps : List Stretch} {o : Optional} {r : ReadStatement} (e : Read)
         → Placed Expression (seen ts at) at (tree_of e.expr.value) (seen ts e.next) e.next ps → Records after u ps w
-        → BehindPlaced after (Op Comma) Expression ts e.next w v o
+        → AfterPlaced after (Op Comma) Expression ts e.next w v o
         → stmt_of r.statement ≡ Assert (tree_of e.expr.value) (boxed_of o.expr) → r.next ≡ o.next
         → WordPlaced after Key.Assert ts at u v (Ok r)
     assert_placed e p k o h n prof from q s =

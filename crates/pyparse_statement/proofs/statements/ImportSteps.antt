@@ -31,7 +31,7 @@ pub alias_pushed : (xs ys : List given_alias.Alias) (a : given_alias.Alias) → 
     → map alias_of ys ≡ map alias_of xs ++ (alias_of a ∷ [])
 alias_pushed xs ys a h = ap (λ l. map alias_of l) h ∙ map-append alias_of xs (a ∷ [])
 
--- a name of an import, by its name and what stands behind it
+-- a name of an import, by its name and what stands after it
 pub alias_is : (i : List Terminal) → name_alias i ≡ and_then (read_name i) (λ x r. and_then (read_as r) (λ a r1. Found (alias x a) r1))
 alias_is [] = refl
 alias_is (t ∷ r) = go (name_in t)
@@ -75,7 +75,7 @@ dotted_start ts at bytes w e = record {
 }
 
 module _ (ts : List given.Terminal) (x : Answer Identifier) (bytes : List ℕ) (n : ℕ) (c : Dotted ts x bytes n) where
-  -- behind a name
+  -- after a name
   abbrev rest : ℕ → Identifier → List Terminal → Answer Identifier
   rest m w r = on_first (is_op Dot) r (λ _ r1. and_then (dotted m r1) (λ y r2. Found (w ++ (46 ∷ y)) r2)) (Found w r)
 
@@ -121,8 +121,8 @@ module _ (ts : List given.Terminal) (x : Answer Identifier) (bytes : List ℕ) (
         two : n + 1 + 1 ≡ next
         two = omega (arith, k)
 
-        behind : (m : ℕ) → rest m w (seen ts (n + 1)) ≡ and_then (dotted m (seen ts (n + 1 + 1))) (λ y r2. Found (w ++ (46 ∷ y)) r2)
-        behind m = rw s.is refl
+        following : (m : ℕ) → rest m w (seen ts (n + 1)) ≡ and_then (dotted m (seen ts (n + 1 + 1))) (λ y r2. Found (w ++ (46 ∷ y)) r2)
+        following m = rw s.is refl
 
         go : (m : ℕ) → length (seen ts n) < m → x ≡ and_then (dotted m (seen ts n)) (λ y r. Found (c.text ++ y) r) → Dotted ts x last next
         go zero l q = absurd (omega (arith, l))
@@ -134,7 +134,7 @@ module _ (ts : List given.Terminal) (x : Answer Identifier) (bytes : List ℕ) (
           most = m;
           enough = omega (arith, l, k, s.within, seen_length ts n, seen_length ts next);
           is = first m q
-              ∙ ap (λ z. and_then z (λ y r. Found (c.text ++ y) r)) (behind m)
+              ∙ ap (λ z. and_then z (λ y r. Found (c.text ++ y) r)) (following m)
               ∙ grown (dotted m (seen ts (n + 1 + 1)))
               ∙ ap (λ j. and_then (dotted m (seen ts j)) (λ y r. Found (((c.text ++ w) ++ (46 ∷ [])) ++ y) r)) two;
         }
@@ -195,7 +195,7 @@ module _ (ts : List given.Terminal) (x : Answer ℕ) (count n : ℕ) (c : Dots t
         ∙ ap (λ m. and_then (read_dots (seen ts next)) (λ j r. Found (m + j) r)) (sym e);
   }
 
--- ---- The names behind `import`, and all of it.
+-- ---- The names after `import`, and all of it.
 
 module _ (ts : List given.Terminal) (at : ℕ) where
   pub names_star : Stands (Op Star) ts at → read_names (seen ts at) ≡ Found (alias (42 ∷ []) None ∷ []) (seen ts (at + 1))

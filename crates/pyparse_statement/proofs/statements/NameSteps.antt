@@ -1,4 +1,4 @@
--- Names, and the name behind an `as`.
+-- Names, and the name after an `as`.
 --
 -- Carries: read_name, read_as. On: LineReader.
 use Rattle.std.proofs.Common.{◌≡◌, refl, sym, ap, ◌∙◌, arith, ℕ, ◌+◌, ◌≤◌, ◌<◌, List, Some, None, length}

@@ -1,4 +1,4 @@
--- Where expressions begin, and one behind a mark.
+-- Where expressions begin, and one after a mark.
 --
 -- Carries: starts_expression, starts_stars, stars_or_none, after_sign, after_word.
 -- On: LineReader, Precedence.
@@ -67,7 +67,7 @@ module _ (ts : List given.Terminal) (self : Reads) (l : Level) (at : ℕ) where
         ∙ ap (λ k. Found o (seen ts k)) (sym q);
   }
 
--- what is read behind a mark, where it stands
+-- what is read after a mark, where it stands
 module _ (ts : List given.Terminal) (self : Reads) (t : Terminal) (l : Level) (at : ℕ) where
   module _ (h : after self t l (seen ts at) ≡ and_then (self l (seen ts (at + 1))) (λ e r. Found (Some e) r)) where
     pub after_failed : (e : Stop) → Failed e (self l (seen ts (at + 1))) → Failed e (after self t l (seen ts at))

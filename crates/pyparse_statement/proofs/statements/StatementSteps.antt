@@ -37,7 +37,7 @@ module _ (ts : List given.Terminal) (profile : Profile) (self : Reads) (at : ℕ
   pub no_type : HasNoTypeName profile ts at → begun profile self (seen ts at) ≡ value_statement self (seen ts at)
   no_type h = h.is (alias_rest profile self) (value_statement self (seen ts at))
 
-  -- behind a keyword
+  -- after a keyword
   pub by_word : (w : Keyword) → Stands (Word w) ts at → statement profile self (seen ts at) ≡ statement_of profile self (start (Word w))
       (seen ts at) (seen ts (at + 1))
   by_word w s = ap (λ i. statement profile self i) s.is
@@ -134,7 +134,7 @@ module _ (ts : List given.Terminal) (profile : Profile) (self : Reads) where
         ∙ ap (λ k. and_then (statements profile self (suc (length (seen ts at))) (seen ts k)) (λ ss i. Found (acc ++ ss) i)) (sym e);
   }
 
-  -- behind one of them
+  -- after one of them
   abbrev rest : ℕ → Stmt → List Terminal → Answer (List Stmt)
   rest m s r = on_first (is_op Semi) r
       (λ _ r1. on_none r1 (Found (s ∷ []) []) (and_then (statements profile self m r1) (λ ss r2. Found (s ∷ ss) r2))) (Found (s ∷ []) r)
@@ -155,7 +155,7 @@ module _ (ts : List given.Terminal) (profile : Profile) (self : Reads) where
           → x ≡ and_then (rest m s (seen ts k)) (λ ss i. Found (acc ++ ss) i)
       first m q = q ∙ ap (λ y. and_then (and_then y (rest m)) (λ ss i. Found (acc ++ ss) i)) f.is
 
-      -- no semicolon behind it
+      -- no semicolon after it
       pub run_last : (low next : ℕ) → next ≡ k → low ≤ k → None ≡ first_is (is_op Semi) (seen ts k) → PartAt ts low x new next
       run_last low next e le h = record {
         ahead = omega (arith, e, le);
@@ -170,11 +170,11 @@ module _ (ts : List given.Terminal) (profile : Profile) (self : Reads) where
               (first_miss (is_op Semi) (seen ts k) _ (Found (s ∷ []) (seen ts k)) h)
 
       module _ (semi : Stands (Op Semi) ts k) (next : ℕ) (e : next ≡ k + 1) where
-        behind : (m : ℕ) → rest m s (seen ts k) ≡ on_none (seen ts (k + 1)) (Found (s ∷ []) [])
+        following : (m : ℕ) → rest m s (seen ts k) ≡ on_none (seen ts (k + 1)) (Found (s ∷ []) [])
             (and_then (statements profile self m (seen ts (k + 1))) (λ ss r2. Found (s ∷ ss) r2))
-        behind m = rw semi.is refl
+        following m = rw semi.is refl
 
-        -- nothing behind the semicolon
+        -- nothing after the semicolon
         pub run_end : (low : ℕ) → low ≤ k → next ≡ length ts → PartAt ts low x new next
         run_end low le h = record {
           ahead = omega (arith, e, le);
@@ -195,7 +195,7 @@ module _ (ts : List given.Terminal) (profile : Profile) (self : Reads) where
             go : (m : ℕ) → length (seen ts n) < m → x ≡ and_then (statements profile self m (seen ts n)) (λ ss i. Found (acc ++ ss) i)
                 → x ≡ Found (acc ++ (s ∷ [])) []
             go zero l q = absurd (omega (arith, l))
-            go (suc m) l q = first m q ∙ ap (λ y. and_then y (λ ss i. Found (acc ++ ss) i)) (behind m
+            go (suc m) l q = first m q ∙ ap (λ y. and_then y (λ ss i. Found (acc ++ ss) i)) (following m
                 ∙ ap (λ i. on_none i (Found (s ∷ []) []) (and_then (statements profile self m (seen ts (k + 1)))
                 (λ ss r2. Found (s ∷ ss) r2))) past_semi)
 
@@ -209,7 +209,7 @@ module _ (ts : List given.Terminal) (profile : Profile) (self : Reads) where
         some [] y z h = absurd (omega (arith, h))
         some (t ∷ i) y z h = refl
 
-        -- another one behind the semicolon
+        -- another one after the semicolon
         pub run_more : n ≤ k → next < length ts → Runs ts profile self x new next
         run_more le h = go c.most c.enough c.is
           where
@@ -221,7 +221,7 @@ module _ (ts : List given.Terminal) (profile : Profile) (self : Reads) where
               most = m;
               enough = omega (arith, l, e, le, h, semi.within, seen_length ts n, seen_length ts next);
               is = first m q
-                  ∙ ap (λ y. and_then y (λ ss i. Found (acc ++ ss) i)) (behind m
+                  ∙ ap (λ y. and_then y (λ ss i. Found (acc ++ ss) i)) (following m
                   ∙ some (seen ts (k + 1)) (Found (s ∷ []) []) (and_then (statements profile self m (seen ts (k + 1)))
                   (λ ss r2. Found (s ∷ ss) r2)) (omega (arith, h, e, seen_length ts (k + 1))))
                   ∙ grown (statements profile self m (seen ts (k + 1)))

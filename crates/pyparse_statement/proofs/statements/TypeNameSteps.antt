@@ -41,15 +41,15 @@ none_of None h = refl
 none_of (Some n) h = absurd (cc)
 
 module _ (ts : List given.Terminal) (at : ℕ) where
-  abbrev behind : (Identifier → List Terminal → Answer Stmt) → Answer Stmt → List Terminal → Answer Stmt
-  behind hit miss r = on_first name_in r hit miss
+  abbrev following : (Identifier → List Terminal → Answer Stmt) → Answer Stmt → List Terminal → Answer Stmt
+  following hit miss r = on_first name_in r hit miss
 
-  -- `type` stands at the place, whatever is behind it
+  -- `type` stands at the place, whatever is after it
   typed : (hit : Identifier → List Terminal → Answer Stmt) (miss : Answer Stmt) → true ≡ is_some (first_is is_type (seen ts at))
       → on_type plain_312 (seen ts at) hit miss ≡ on_first name_in (seen ts (at + 1)) hit miss
   typed hit miss b =
       let w = some_of (first_is is_type (seen ts at)) b in
-      first_hit is_type (seen ts at) w.0 (λ _ r. behind hit miss r) miss w.1 ∙ ap (behind hit miss) (seen_next ts at)
+      first_hit is_type (seen ts at) w.0 (λ _ r. following hit miss r) miss w.1 ∙ ap (following hit miss) (seen_next ts at)
 
   pub type_found : (x : Identifier) → true ≡ is_some (first_is is_type (seen ts at)) → Some x ≡ first_is name_in (seen ts (at + 1))
       → at + 1 < length ts → HasTypeName plain_312 x ts at
@@ -63,7 +63,7 @@ module _ (ts : List given.Terminal) (at : ℕ) where
 
   pub type_other : false ≡ is_some (first_is is_type (seen ts at)) → HasNoTypeName plain_312 ts at
   type_other b = record {
-    is = λ hit miss. first_miss is_type (seen ts at) (λ _ r. behind hit miss r) miss
+    is = λ hit miss. first_miss is_type (seen ts at) (λ _ r. following hit miss r) miss
         (none_of (first_is is_type (seen ts at)) b);
   }
 

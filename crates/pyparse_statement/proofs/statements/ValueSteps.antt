@@ -20,7 +20,7 @@ use Rattle.pyparse_nodes.specs.Answers.{Failed, PartAt}
 use Rattle.pyparse_nodes.specs.Views.{IsNamed, IsNotNamed, Stands, first_is, seen}
 use Rattle.pyparse_reads.proofs.Callers.Looks.{failed_then, first_hit, first_miss, name_miss, seen_length, seen_next}
 
--- behind a value that no `=` follows
+-- after a value that no `=` follows
 module _ (ts : List given.Terminal) (self : Reads) (e : Expr) (n : ℕ) where
   pub assigned : (acc : List Expr) → 0 < length acc → end_value self acc e (seen ts n) ≡ Found (Assign acc e) (seen ts n)
   assigned [] h = absurd (omega (arith, h))
@@ -100,9 +100,9 @@ targets_start ts self at acc n w a e = record {
 }
 
 module _ (ts : List given.Terminal) (self : Reads) (x : Answer Stmt) (acc : List Expr) (n : ℕ) (c : Assigns ts self x acc n) where
-  -- behind a value
-  abbrev behind : ℕ → Expr → List Terminal → Answer Stmt
-  behind m e r = on_first (is_op Equal) r (λ _ r1. on_some (stored e) (λ t. value_loop self m (acc ++ (t ∷ [])) r1) NoForm)
+  -- after a value
+  abbrev following : ℕ → Expr → List Terminal → Answer Stmt
+  following m e r = on_first (is_op Equal) r (λ _ r1. on_some (stored e) (λ t. value_loop self m (acc ++ (t ∷ [])) r1) NoForm)
       (end_value self acc e r)
 
   pub targets_failed : (s : Stop) → Failed s (self Value (seen ts n)) → Failed s x
@@ -110,11 +110,11 @@ module _ (ts : List given.Terminal) (self : Reads) (x : Answer Stmt) (acc : List
     where
       go : (m : ℕ) → length (seen ts n) < m → x ≡ value_loop self m acc (seen ts n) → Failed s x
       go zero l q = absurd (omega (arith, l))
-      go (suc m) l q = rw q (failed_then s (self Value (seen ts n)) (behind m) f)
+      go (suc m) l q = rw q (failed_then s (self Value (seen ts n)) (following m) f)
 
   module _ (e : Expr) (k : ℕ) (f : self Value (seen ts n) ≡ Found e (seen ts k)) where
-    first : (m : ℕ) → x ≡ value_loop self (suc m) acc (seen ts n) → x ≡ behind m e (seen ts k)
-    first m q = q ∙ ap (λ y. and_then y (behind m)) f
+    first : (m : ℕ) → x ≡ value_loop self (suc m) acc (seen ts n) → x ≡ following m e (seen ts k)
+    first m q = q ∙ ap (λ y. and_then y (following m)) f
 
     pub targets_last : None ≡ first_is (is_op Equal) (seen ts k) → x ≡ end_value self acc e (seen ts k)
     targets_last h = go c.most c.enough c.is
@@ -125,7 +125,7 @@ module _ (ts : List given.Terminal) (self : Reads) (x : Answer Stmt) (acc : List
 
     module _ (s : Stands (Op Equal) ts k) where
       stored_then : (m : ℕ)
-          → behind m e (seen ts k) ≡ on_some (stored e) (λ t. value_loop self m (acc ++ (t ∷ [])) (seen ts (k + 1))) NoForm
+          → following m e (seen ts k) ≡ on_some (stored e) (λ t. value_loop self m (acc ++ (t ∷ [])) (seen ts (k + 1))) NoForm
       stored_then m = rw s.is refl
 
       pub targets_wrong : stored e ≡ None → x ≡ NoForm

@@ -1,4 +1,4 @@
--- The headers of `def` and `class`, behind their brackets, as the program reads them.
+-- The headers of `def` and `class`, after their brackets, as the program reads them.
 use Rattle.std.specs.Prelude.{List, Bool}
 use Rattle.pylex_lexeme.specs.declared.kinds.Exact.TheVariants.{RArrow, RPar}
 use Rattle.pytree_node.specs.Trees.{Identifier, TypeParam}

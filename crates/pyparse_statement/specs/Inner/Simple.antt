@@ -1,4 +1,4 @@
--- The simple statements, behind the keyword that each begins with.
+-- The simple statements, after the keyword that each begins with.
 use Rattle.std.specs.Prelude.{List, Some, None, cond}
 use Rattle.pylex_lexeme.specs.declared.kinds.Exact.TheVariants.{Comma}
 use Rattle.pytree_node.specs.declared.profiles.Profile.{Profile}

@@ -11,7 +11,7 @@ use Rattle.pygrammar.specs.LineReader.{after, on_type}
 use Rattle.pygrammar.specs.Reader.{Answer, Found, Reads, and_then}
 use Rattle.pyparse_nodes.specs.Views.{seen}
 
--- a parameter with no star, behind its name
+-- a parameter with no star, after its name
 abbrev pub type_var : Reads → Identifier → List tokens.Terminal → Answer TypeParam
 type_var self x i = and_then (after self (Op Colon) Expression i) (λ bound r. Found (TypeVar x bound) r)
 

@@ -10,7 +10,7 @@ ghost use Rattle.pyparse_nodes.specs.Answers.{PartAnswered};
 ghost use Rattle.pyparse_reads.specs.Readings.{reads};
 ghost use Rattle.pyparse_nodes.specs.Views.{seen};
 ghost use Rattle.std.specs.Prelude.{IfOk};
-ghost use Rattle.pyparse_statement.specs.PlacedParts.{BehindPlaced, OptionalPlaced};
+ghost use Rattle.pyparse_statement.specs.PlacedParts.{AfterPlaced, OptionalPlaced};
 
 use pygrammar::Level;
 use pylex_listing::Exact;
@@ -109,7 +109,7 @@ pub fn after_sign<E: ReadsExpressions, R: Recorder>(
     ensures answered { PartAnswered tokens.now at
         (line.after (reads depth) (tokens_of.Op sign) level (seen tokens.now at))
         (λ r. boxed_of r.expr) (λ r. r.next) result }
-    ensures placed { IfOk result (BehindPlaced R.after (tokens_of.Op sign) level tokens.now at
+    ensures placed { IfOk result (AfterPlaced R.after (tokens_of.Op sign) level tokens.now at
         recorder.old recorder.new) }
 {
     if !is_op(tokens, at, sign) {
@@ -133,7 +133,7 @@ pub fn after_word<E: ReadsExpressions, R: Recorder>(
     ensures answered { PartAnswered tokens.now at
         (line.after (reads depth) (tokens_of.Word word) level (seen tokens.now at))
         (λ r. boxed_of r.expr) (λ r. r.next) result }
-    ensures placed { IfOk result (BehindPlaced R.after (tokens_of.Word word) level tokens.now at
+    ensures placed { IfOk result (AfterPlaced R.after (tokens_of.Word word) level tokens.now at
         recorder.old recorder.new) }
 {
     if !is_word(tokens, at, word) {

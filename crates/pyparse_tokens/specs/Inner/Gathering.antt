@@ -1,4 +1,4 @@
--- What one pass over a listing gathers behind some entries.
+-- What one pass over a listing gathers after some entries.
 use Rattle.std.specs.Prelude.{◌≡◌, ℕ, List, [], ◌++◌, map}
 use Rattle.pylex_listing.specs.declared.entries.Entry.{Entry}
 use Rattle.pytoken.specs.Tokens
@@ -9,11 +9,11 @@ use Rattle.pyparse_tokens.specs.declared.tokens.Token.{Token}
 use Rattle.pyparse_tokens.specs.Answers.{token_of}
 use Rattle.pyparse_tokens.specs.Inner.Passing.{Gains, Passed}
 
--- tokens of the code with some more behind them
+-- tokens of the code with some more after them
 abbrev pub Grows : List Token → List Token → List Tokens.Token → Type 0
 Grows old new more = map token_of new ≡ map token_of old ++ more
 
--- what is gathered behind one entry more
+-- what is gathered after one entry more
 pub record Gathers (text : List ℕ) (e : Entry) (old new : Gather) : Type 0 where
   pub tokens : Grows old.tokens.items new.tokens.items (tokens_of_entry text old.pass.begun e)
   pub pass : Gains text e (entry_refusal old.pass.extent text e) old.pass new.pass

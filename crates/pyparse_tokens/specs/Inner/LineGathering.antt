@@ -1,4 +1,4 @@
--- What one pass over a listing gathers of its lines behind some entries.
+-- What one pass over a listing gathers of its lines after some entries.
 use Rattle.std.specs.Prelude.{◌≡◌, ℕ, ◌+◌, ◌-◌, ◌<◌, ◌≤◌, ◌&&◌, Bool, true, false, List, [], ◌∷◌, ◌++◌, length, take, map, count_by}
 use Rattle.std.specs.Prelude.{slice_get, Some, None, if◌then◌else◌}
 use Rattle.std.specs.List.{flat_map}
@@ -12,7 +12,7 @@ use Rattle.pylex_listing.specs.Listing.{in_characters, listing}
 use Rattle.pylex.specs.Listers.{Listed, StandsIn}
 use Rattle.pylex_listing.specs.Laws.{IsWhole, AllLie, HaveExact}
 use Rattle.pylex_listing.specs.Steps.{most_entries, entries_of}
-use Rattle.pytoken.specs.Inner.Behind.{behind}
+use Rattle.pytoken.specs.Inner.Following.{following}
 use Rattle.pytoken.specs.Terminals
 use Rattle.pytoken.specs.Terminals.{terminals_of}
 use Rattle.pytoken.specs.Tokens.{Token, Line, text_of, tokens_from, lines_from, lines}
@@ -47,9 +47,9 @@ ended_by e begun = ends_open_line e.kind && begun
 abbrev pub own_terminals : List ℕ → Entry → List Terminals.Terminal
 own_terminals text e = if stands_in_line e.kind then terminals_of e.kind (text_of text e) else []
 
--- where ENDMARKER starts, behind an entry that may be it
-abbrev pub marker_behind : Entry → Place → Place
-marker_behind e p = elim e.kind [ kinds.EndMarker ↦ e.start | _ ↦ p ]
+-- where ENDMARKER starts, after an entry that may be it
+abbrev pub marker_after : Entry → Place → Place
+marker_after e p = elim e.kind [ kinds.EndMarker ↦ e.start | _ ↦ p ]
 
 -- what an entry without a fault of its own adds to the line that is open
 pub record Adds (text : List ℕ) (e : Entry) (old new : OpenLine) : Type 0 where
@@ -59,32 +59,32 @@ pub record Adds (text : List ℕ) (e : Entry) (old new : OpenLine) : Type 0 wher
       else chars old.first.now)
   pub last : chars new.last.now ≡ (if stands_in_line e.kind then text_of text e else chars old.last.now)
 
--- what is gathered behind one entry more
+-- what is gathered after one entry more
 pub record TakesEntry (text : List ℕ) (e : Entry) (old new : LineGather) : Type 0 where
   pub pass : Gains text e (entry_refusal old.pass.extent text e) old.pass new.pass
   pub level : ended_by e old.pass.begun ≡ true → new.level ≡ old.indents - old.dedents
   pub indents : new.indents ≡ counted old.indents (is_indent e.kind)
   pub dedents : new.dedents ≡ counted old.dedents (is_dedent e.kind)
-  pub marker : new.marker ≡ marker_behind e old.marker
+  pub marker : new.marker ≡ marker_after e old.marker
   pub line : entry_refusal old.pass.extent text e ≡ None → Adds text e old.line new.line
 
--- the tokens of the line that is open behind some tokens
-abbrev pub line_behind : List Token → List Token → List Token
-line_behind line [] = line
-line_behind line (t ∷ ts) = elim t.kind [
-  | kinds.Newline ↦ line_behind [] ts
-  | kinds.Indent ↦ line_behind line ts
-  | kinds.Dedent ↦ line_behind line ts
-  | kinds.EndMarker ↦ line_behind line ts
-  | _ ↦ line_behind (line ++ t ∷ []) ts
+-- the tokens of the line that is open after some tokens
+abbrev pub line_following : List Token → List Token → List Token
+line_following line [] = line
+line_following line (t ∷ ts) = elim t.kind [
+  | kinds.Newline ↦ line_following [] ts
+  | kinds.Indent ↦ line_following line ts
+  | kinds.Dedent ↦ line_following line ts
+  | kinds.EndMarker ↦ line_following line ts
+  | _ ↦ line_following (line ++ t ∷ []) ts
 ]
 
--- of some entries the tokens, the line that is open behind them, and the lines
+-- of some entries the tokens, the line that is open after them, and the lines
 abbrev pub front_tokens : List ℕ → List Entry → List Token
 front_tokens text es = tokens_from text [] es
 
 abbrev pub front_line : List ℕ → List Entry → List Token
-front_line text es = line_behind [] (front_tokens text es)
+front_line text es = line_following [] (front_tokens text es)
 
 abbrev pub front_lines : List ℕ → List Entry → List Line
 front_lines text es = lines_from [] [] (front_tokens text es)
@@ -92,14 +92,14 @@ front_lines text es = lines_from [] [] (front_tokens text es)
 -- what is kept of faults and of levels is what the entries say, and where a line is open it has a token
 pub record Counts (text : List ℕ) (es : List Entry) (g : LineGather) : Type 0 where
   pub pass : Passed text es g.pass
-  pub indents : g.indents ≡ count_by (λ t. is_indent t.kind) (behind [] (front_tokens text es))
-  pub dedents : g.dedents ≡ count_by (λ t. is_dedent t.kind) (behind [] (front_tokens text es))
+  pub indents : g.indents ≡ count_by (λ t. is_indent t.kind) (following [] (front_tokens text es))
+  pub dedents : g.dedents ≡ count_by (λ t. is_dedent t.kind) (following [] (front_tokens text es))
   pub few_indents : g.indents ≤ length es
   pub few_dedents : g.dedents ≤ length es
   pub some : g.pass.begun ≡ true → 0 < length (front_line text es)
   pub marker : (before : List Entry) (e : Entry) → es ≡ before ++ e ∷ [] → e.kind ≡ kinds.EndMarker → g.marker ≡ e.start
 
--- a lister and what is gathered stand behind the same entries of a source
+-- a lister and what is gathered stand after the same entries of a source
 pub record StandsAt (p : Parts) (l : Listed) (g : LineGather) : Type 0 where
   pub source : l.source ≡ p
   pub stands : StandsIn l (in_characters p) l.shown.given
@@ -115,7 +115,7 @@ pub record StandsBetween (p : Parts) (l : Listed) (g : LineGather) : Type 0 wher
   pub at : StandsAt p l g
   pub closed : front_line (chars p.text) (take l.shown.given (entries_of (listing (in_characters p)))) ≡ []
 
--- how many lines of a source are behind a lister
+-- how many lines of a source are after a lister
 abbrev pub lines_given : Parts → Listed → ℕ
 lines_given p l = length (lines_within (in_characters p) l.shown.given)
 

@@ -27,7 +27,7 @@ reading l = record {
   outcome = l.outcome;
 }
 
--- what is answered where no line comes, behind so many, with ENDMARKER here
+-- what is answered where no line comes, after so many, with ENDMARKER here
 abbrev pub Ends : Extent → Source → ℕ → Place → Result Bool ParseFault → Type 0
 Ends extent s k p (Ok more) = (more ≡ false) × (k ≡ length (lines s)) × (refusal extent s ≡ None) × EndsAt s p
 Ends extent s k p (Err fault) = Tells (refusal extent s) fault

@@ -36,7 +36,7 @@ KeepsMarks p l g start marks = kept_refusal g.pass ≡ None
 abbrev pub GoesOn : Parts → Listed → LineGather → Option (List Span) → Listed → LineGather → Option (List Span) → Type 0
 GoesOn p from old was to new now = (start : Option (List Span)) → KeepsMarks p from old start was → KeepsMarks p to new start now
 
--- what is kept is what was kept where the line began, with the spans of the line behind those before a place
+-- what is kept is what was kept where the line began, with the spans of the line after those before a place
 abbrev pub MarksLine : Parts → Listed → Option (List Span) → Option (List Span) → Type 0
 MarksLine p first start marks = (line : Line) → slice_get (lines (in_characters p)) (lines_given p first) ≡ Some line
     → marks ≡ added start (line_spans (chars p.text) line)

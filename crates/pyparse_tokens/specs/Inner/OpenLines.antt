@@ -10,7 +10,7 @@ use Rattle.pytoken.specs.declared.values.terminals.Terminal.{Terminal}
 use Rattle.pyparse_tokens.specs.declared.open_line.OpenLine.{OpenLine}
 use Rattle.pyparse_tokens.specs.LineReadings.{first_start, token_terminals}
 
--- what a line begins with, behind one token more that has this, by the terminals before
+-- what a line begins with, after one token more that has this, by the terminals before
 abbrev pub of_first : {A : Type 0} → List Terminal → A → A → A
 of_first [] p q = q
 of_first (t ∷ ts) p q = p

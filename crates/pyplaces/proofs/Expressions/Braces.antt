@@ -45,11 +45,11 @@ placed_set_comp h p c k = built (sign h (both (front_of p) (both (front_of c) (s
     (from p (omega arith) ⊕ from c (omega (arith, p.ends)) ⊕ own (omega (arith, p.ends, c.ends)))
 
 -- a key and its value; and `**` of one
-pub placed_pair : {i r s u : List Terminal} {at m behind : ℕ} {a e : Expr} {ps qs : List Stretch} → Placed Expression i at a r m ps
-    → r ≡ Op Colon ∷ s → Placed Expression s (m + 1) e u behind qs → PlacedPiece Pair i at (Paired a e) u behind (E.Paired ps qs)
+pub placed_pair : {i r s u : List Terminal} {at m following : ℕ} {a e : Expr} {ps qs : List Stretch} → Placed Expression i at a r m ps
+    → r ≡ Op Colon ∷ s → Placed Expression s (m + 1) e u following qs → PlacedPiece Pair i at (Paired a e) u following (E.Paired ps qs)
 placed_pair p h q = built (both (front_of p) (sign h (front_of q))) (G.pair p.derived q.derived)
     (entry E.Paired p.places_are (from q (omega (arith, p.ends))))
 
-pub placed_pairs_of : {i r s : List Terminal} {at behind : ℕ} {e : Expr} {ps : List Stretch} → i ≡ Op DoubleStar ∷ r
-    → Placed BitOr r (at + 1) e s behind ps → PlacedPiece Pair i at (Doubled e) s behind (E.Doubled ps (stretch at behind))
+pub placed_pairs_of : {i r s : List Terminal} {at following : ℕ} {e : Expr} {ps : List Stretch} → i ≡ Op DoubleStar ∷ r
+    → Placed BitOr r (at + 1) e s following ps → PlacedPiece Pair i at (Doubled e) s following (E.Doubled ps (stretch at following))
 placed_pairs_of h p = built (sign h (front_of p)) (G.pairs_of p.derived) (entry_at E.Doubled (from p (omega arith)) (omega (arith, p.ends)))

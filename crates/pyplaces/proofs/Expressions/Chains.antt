@@ -18,9 +18,9 @@ use Rattle.pyplaces.specs.Rests.{Lacks, Links, no_word, words, Sides, no_sign, s
 use Rattle.pyplaces.proofs.Fronts.{nothing, sign, both, front_of, from, built, ◌⊕◌, tails}
 use Rattle.pyplaces.proofs.Loops.{Grows, grows_turn, grows_end}
 
-pub placed_link : {o : BoolOperator} {i r s u : List Terminal} {at m behind : ℕ} {e : Expr} {es : List Expr} {ps qs : List Stretch}
-    → Placed (below (chain_level o)) i at e r m ps → r ≡ Word (chain_word o) ∷ s → PlacedChain o s (m + 1) es u behind qs
-    → PlacedChain o i at (e ∷ es) u behind (ps ++ qs)
+pub placed_link : {o : BoolOperator} {i r s u : List Terminal} {at m following : ℕ} {e : Expr} {es : List Expr} {ps qs : List Stretch}
+    → Placed (below (chain_level o)) i at e r m ps → r ≡ Word (chain_word o) ∷ s → PlacedChain o s (m + 1) es u following qs
+    → PlacedChain o i at (e ∷ es) u following (ps ++ qs)
 placed_link p h c = built (both (front_of p) (sign h (front_of c))) (G.link p.derived c.derived)
     (p.places_are ⊕ from c (omega (arith, p.ends)))
 
@@ -70,9 +70,9 @@ sides_more d p (signs c) = signs (built (both (front_of d) (both (front_of p) (f
 
 -- some were read, for what follows
 pub record SidesGrow (i : List Terminal) (at : ℕ) (os : List Comparison) (es : List Expr) (r : List Terminal)
-    (behind : ℕ) (ps : List Stretch)
+    (following : ℕ) (ps : List Stretch)
     : Type 0 where
-  pub so : (ns : List Comparison) (fs : List Expr) (s : List Terminal) (next : ℕ) (qs : List Stretch) → Sides r behind ns fs s next qs
+  pub so : (ns : List Comparison) (fs : List Expr) (s : List Terminal) (next : ℕ) (qs : List Stretch) → Sides r following ns fs s next qs
       → Sides i at (os ++ ns) (es ++ fs) s next (ps ++ qs)
 
 pub sides_start : {i : List Terminal} {at : ℕ} → SidesGrow i at [] [] i at []

@@ -17,26 +17,26 @@ use Rattle.pyplaces.proofs.Loops.{Grows, grows_turn, grows_end}
 use Rattle.pygrammar.specs.Precedence.{starts_comp}
 
 -- ---- A clause.
-pub placed_for_in : {bb : Bool} {i r s u v : List Terminal} {at m n behind : ℕ} {e f a : Expr} {es : List Expr} {ps qs ws : List Stretch}
-    → Placed Stars i at e r m ps → stored e ≡ Some f → r ≡ Word Key.In ∷ s → Placed Or s (m + 1) a u n qs → PlacedIfs u n es v behind ws
-    → PlacedForIn bb i at (record { target = f; iter = a; ifs = es; is_async = bb }) v behind (ps ++ (qs ++ ws))
+pub placed_for_in : {bb : Bool} {i r s u v : List Terminal} {at m n following : ℕ} {e f a : Expr} {es : List Expr} {ps qs ws : List Stretch}
+    → Placed Stars i at e r m ps → stored e ≡ Some f → r ≡ Word Key.In ∷ s → Placed Or s (m + 1) a u n qs → PlacedIfs u n es v following ws
+    → PlacedForIn bb i at (record { target = f; iter = a; ifs = es; is_async = bb }) v following (ps ++ (qs ++ ws))
 placed_for_in p y h q c = built (both (front_of p) (sign h (both (front_of q) (front_of c)))) (G.target_in p.derived y q.derived c.derived)
     (p.places_are ⊕ from q (omega (arith, p.ends)) ⊕ from c (omega (arith, p.ends, q.ends)))
 
-pub placed_for : {i r s : List Terminal} {at behind : ℕ} {g : Comprehension} {ps : List Stretch} → i ≡ Word Key.For ∷ r
-    → PlacedForIn false r (at + 1) g s behind ps → PlacedComp i at g s behind ps
+pub placed_for : {i r s : List Terminal} {at following : ℕ} {g : Comprehension} {ps : List Stretch} → i ≡ Word Key.For ∷ r
+    → PlacedForIn false r (at + 1) g s following ps → PlacedComp i at g s following ps
 placed_for h p = built (sign h (front_of p)) (G.for_in p.derived) (from p (omega arith))
 
-pub placed_async_for : {i r s : List Terminal} {at behind : ℕ} {g : Comprehension} {ps : List Stretch}
-    → i ≡ Word Key.Async ∷ (Word Key.For ∷ r) → PlacedForIn true r (at + 2) g s behind ps → PlacedComp i at g s behind ps
+pub placed_async_for : {i r s : List Terminal} {at following : ℕ} {g : Comprehension} {ps : List Stretch}
+    → i ≡ Word Key.Async ∷ (Word Key.For ∷ r) → PlacedForIn true r (at + 2) g s following ps → PlacedComp i at g s following ps
 placed_async_for h p = built (signs h (front_of p)) (G.async_for_in p.derived) (from p (omega arith))
 
 -- ---- Its conditions.
 pub placed_no_if : {r : List Terminal} {at : ℕ} → PlacedIfs r at [] r at []
 placed_no_if = built nothing G.no_if refl
 
-pub placed_if : {i r s u : List Terminal} {at m behind : ℕ} {e : Expr} {es : List Expr} {ps qs : List Stretch} → i ≡ Word Key.If ∷ r
-    → Placed Or r (at + 1) e s m ps → PlacedIfs s m es u behind qs → PlacedIfs i at (e ∷ es) u behind (ps ++ qs)
+pub placed_if : {i r s u : List Terminal} {at m following : ℕ} {e : Expr} {es : List Expr} {ps qs : List Stretch} → i ≡ Word Key.If ∷ r
+    → Placed Or r (at + 1) e s m ps → PlacedIfs s m es u following qs → PlacedIfs i at (e ∷ es) u following (ps ++ qs)
 placed_if h p c = built (sign h (both (front_of p) (front_of c))) (G.if_one p.derived c.derived)
     (from p (omega arith) ⊕ from c (omega (arith, p.ends)))
 

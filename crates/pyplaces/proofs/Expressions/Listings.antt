@@ -17,26 +17,26 @@ use Rattle.pyplaces.specs.Rests.{Lacks, Others, no_comma, commas}
 use Rattle.pyplaces.proofs.Loops.{Grows, grows_turn, grows_end}
 
 -- an expression between commas
-pub placed_single : {l : Level} {i r : List Terminal} {at behind : ℕ} {e : Expr} {ps : List Stretch} → Placed l i at e r behind ps
-    → PlacedPiece (Of l) i at (Single e) r behind (E.Single ps)
+pub placed_single : {l : Level} {i r : List Terminal} {at following : ℕ} {e : Expr} {ps : List Stretch} → Placed l i at e r following ps
+    → PlacedPiece (Of l) i at (Single e) r following (E.Single ps)
 placed_single p = built (front_of p) (G.single p.derived) (ap E.Single p.places_are)
 
 -- ---- Listings.
 pub placed_no_item : {j : Item} {r : List Terminal} {at : ℕ} → PlacedListing j r at [] r at []
 placed_no_item = built nothing G.no_item refl
 
-pub placed_last_item : {j : Item} {i r : List Terminal} {at behind : ℕ} {e : Entry} {p : EntryPlaces} → PlacedPiece j i at e r behind p
-    → PlacedListing j i at (e ∷ []) r behind (p ∷ [])
+pub placed_last_item : {j : Item} {i r : List Terminal} {at following : ℕ} {e : Entry} {p : EntryPlaces} → PlacedPiece j i at e r following p
+    → PlacedListing j i at (e ∷ []) r following (p ∷ [])
 placed_last_item d = built (front_of d) (G.last_item d.derived) (ap (λ z. z ∷ []) d.places_are)
 
-pub placed_item : {j : Item} {i r s u : List Terminal} {at m behind : ℕ} {e : Entry} {es : List Entry}
+pub placed_item : {j : Item} {i r s u : List Terminal} {at m following : ℕ} {e : Entry} {es : List Entry}
     {p : EntryPlaces} {ps : List EntryPlaces}
-    → PlacedPiece j i at e r m p → r ≡ Op Comma ∷ s → PlacedListing j s (m + 1) es u behind ps
-    → PlacedListing j i at (e ∷ es) u behind (p ∷ ps)
+    → PlacedPiece j i at e r m p → r ≡ Op Comma ∷ s → PlacedListing j s (m + 1) es u following ps
+    → PlacedListing j i at (e ∷ es) u following (p ∷ ps)
 placed_item d h c = built (both (front_of d) (sign h (front_of c))) (G.item d.derived c.derived)
     (cons d.places_are (from c (omega (arith, d.ends))))
 
--- ---- A loop whose turns begin behind a comma: those of arguments and of parameters.
+-- ---- A loop whose turns begin after a comma: those of arguments and of parameters.
 pub listing_turn : {j : Item} {i r s u : List Terminal} {at m n : ℕ} {e : Entry} {es : List Entry} {p : EntryPlaces} {ps : List EntryPlaces}
     → Grows (PlacedListing j) i at es r m ps → PlacedPiece j r m e s n p → s ≡ Op Comma ∷ u
     → Grows (PlacedListing j) i at (es ++ (e ∷ [])) u (n + 1) (ps ++ (p ∷ []))
@@ -75,9 +75,9 @@ pub listed : {j : Item} {i r s : List Terminal} {at m n : ℕ} {e : Entry} {es :
 listed d (no_comma f) = placed_last_item d
 listed d (commas h c) = placed_item d h c
 
--- those behind the first comma: of a tuple
-pub behind_comma : {j : Item} {r s u : List Terminal} {m n : ℕ} {es : List Entry} {ps : List EntryPlaces} → Others j r m es s n ps
+-- those after the first comma: of a tuple
+pub after_comma : {j : Item} {r s u : List Terminal} {m n : ℕ} {es : List Entry} {ps : List EntryPlaces} → Others j r m es s n ps
     → r ≡ Op Comma ∷ u → PlacedListing j u (m + 1) es s n ps
-behind_comma (no_comma f) h = absurd (f _ h)
-behind_comma {j} {s = s} {m = m} {n = n} {es = es} {ps = ps} (commas k c) h =
+after_comma (no_comma f) h = absurd (f _ h)
+after_comma {j} {s = s} {m = m} {n = n} {es = es} {ps = ps} (commas k c) h =
     subst (λ z. PlacedListing j z (m + 1) es s n ps) (tails _ _ _ _ (sym k ∙ h)) c

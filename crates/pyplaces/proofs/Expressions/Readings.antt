@@ -68,68 +68,68 @@ inv (G.star_elem {ts = ts} p) = inr (ts, refl)
 inv (G.named {x = x} {ts = ts} p) = inr (x, ts, refl)
 inv _ = tt
 
-pub elem_named : {i r : List Terminal} {at behind : ℕ} {e : Expr} {ps : List Stretch} → Placed Elem i at e r behind ps → Lacks (Op Star) i
-    → Placed Named i at e r behind ps
+pub elem_named : {i r : List Terminal} {at following : ℕ} {e : Expr} {ps : List Stretch} → Placed Elem i at e r following ps → Lacks (Op Star) i
+    → Placed Named i at e r following ps
 elem_named {r = r} {at = at} p f = elim (inv p.derived) [
   | inl d ↦ built (front_of p) d.0 (d.1 at ∙ p.places_are)
   | inr u ↦ absurd (f (u.0 ++ r) (p.is ∙ ap (λ z. z ++ r) u.1))
 ]
 
-pub named_expression : {i r : List Terminal} {at behind : ℕ} {e : Expr} {ps : List Stretch} → Placed Named i at e r behind ps
-    → ((x : Spelled) (s : List Terminal) → i ≡ Ident x ∷ (Op ColonEqual ∷ s) → ⊥) → Placed Expression i at e r behind ps
+pub named_expression : {i r : List Terminal} {at following : ℕ} {e : Expr} {ps : List Stretch} → Placed Named i at e r following ps
+    → ((x : Spelled) (s : List Terminal) → i ≡ Ident x ∷ (Op ColonEqual ∷ s) → ⊥) → Placed Expression i at e r following ps
 named_expression {r = r} {at = at} p f = elim (inv p.derived) [
   | inl d ↦ built (front_of p) d.0 (d.1 at ∙ p.places_are)
   | inr u ↦ absurd (f u.0 (u.1 ++ r) (p.is ∙ ap (λ z. z ++ r) u.2))
 ]
 
 -- ---- A part of a subscript.
-pub placed_part : {i r : List Terminal} {at behind : ℕ} {e : Expr} {ps : List Stretch} → PlacedPart i at e r behind ps
-    → Placed Part i at e r behind ps
+pub placed_part : {i r : List Terminal} {at following : ℕ} {e : Expr} {ps : List Stretch} → PlacedPart i at e r following ps
+    → Placed Part i at e r following ps
 placed_part (starred h p) = placed_star_part h p
 placed_part (unstarred f p) = placed_next p
 
-pub part_starred : {i r s : List Terminal} {at behind : ℕ} {e : Expr} {ps : List Stretch} → PlacedPart i at e r behind ps → i ≡ Op Star ∷ s
-    → Placed Slices i at (Trees.Tuple (an_expr e no_exprs) Load) r behind (ps ++ (stretch at behind ∷ []))
-part_starred {at = at} {behind = behind} (starred {ps = ps} k p) h = rw (append_assoc ps (stretch at behind ∷ []) (stretch at behind ∷ []))
+pub part_starred : {i r s : List Terminal} {at following : ℕ} {e : Expr} {ps : List Stretch} → PlacedPart i at e r following ps → i ≡ Op Star ∷ s
+    → Placed Slices i at (Trees.Tuple (an_expr e no_exprs) Load) r following (ps ++ (stretch at following ∷ []))
+part_starred {at = at} {following = following} (starred {ps = ps} k p) h = rw (append_assoc ps (stretch at following ∷ []) (stretch at following ∷ []))
     (placed_star_slices k p)
 part_starred (unstarred f p) h = absurd (f _ h)
 
-pub part_alone : {i r : List Terminal} {at behind : ℕ} {e : Expr} {ps : List Stretch} → PlacedPart i at e r behind ps → Lacks (Op Star) i
-    → Placed Slices i at e r behind ps
+pub part_alone : {i r : List Terminal} {at following : ℕ} {e : Expr} {ps : List Stretch} → PlacedPart i at e r following ps → Lacks (Op Star) i
+    → Placed Slices i at e r following ps
 part_alone (starred h p) f = absurd (f _ h)
 part_alone (unstarred g p) f = placed_next p
 
 -- ---- Targets. In front of `in` their items are Primaries.
-pub placed_target_item : {i r : List Terminal} {at behind : ℕ} {e : Expr} {ps : List Stretch} → Placed Primary i at e r behind ps
-    → Placed StarItem i at e r behind ps
+pub placed_target_item : {i r : List Terminal} {at following : ℕ} {e : Expr} {ps : List Stretch} → Placed Primary i at e r following ps
+    → Placed StarItem i at e r following ps
 placed_target_item p = placed_next (placed_next (placed_lower Or Primary (omega arith) (omega arith) (omega arith) p))
 
-pub placed_target_star : {i r s : List Terminal} {at behind : ℕ} {e : Expr} {ps : List Stretch} → i ≡ Op Star ∷ r
-    → Placed Primary r (at + 1) e s behind ps → Placed StarItem i at (Trees.Starred e Load) s behind (ps ++ (stretch at behind ∷ []))
+pub placed_target_star : {i r s : List Terminal} {at following : ℕ} {e : Expr} {ps : List Stretch} → i ≡ Op Star ∷ r
+    → Placed Primary r (at + 1) e s following ps → Placed StarItem i at (Trees.Starred e Load) s following (ps ++ (stretch at following ∷ []))
 placed_target_star h p = placed_star_item h (placed_lower BitOr Primary (omega arith) (omega arith) (omega arith) p)
 
 -- an Atom that stands alone
-pub placed_alone : {i r : List Terminal} {at behind : ℕ} {e : Expr} {ps : List Stretch} → Placed Atom i at e r behind ps
-    → Placed Expression i at e r behind ps
+pub placed_alone : {i r : List Terminal} {at following : ℕ} {e : Expr} {ps : List Stretch} → Placed Atom i at e r following ps
+    → Placed Expression i at e r following ps
 placed_alone p = placed_next (placed_lower Or Atom (omega arith) (omega arith) (omega arith) p)
 
-pub placed_target : {i r : List Terminal} {at behind : ℕ} {e f : Expr} {ps : List Stretch} → Placed Stars i at e r behind ps
-    → stored e ≡ Some f → PlacedTarget i at f r behind ps
+pub placed_target : {i r : List Terminal} {at following : ℕ} {e f : Expr} {ps : List Stretch} → Placed Stars i at e r following ps
+    → stored e ≡ Some f → PlacedTarget i at f r following ps
 placed_target p h = built (front_of p) (G.target p.derived h) p.places_are
 
-pub placed_single_target : {i r : List Terminal} {at behind : ℕ} {e f : Expr} {ps : List Stretch} → Placed Primary i at e r behind ps
-    → single_stored e ≡ Some f → PlacedSingleTarget i at f r behind ps
+pub placed_single_target : {i r : List Terminal} {at following : ℕ} {e f : Expr} {ps : List Stretch} → Placed Primary i at e r following ps
+    → single_stored e ≡ Some f → PlacedSingleTarget i at f r following ps
 placed_single_target p h = built (front_of p) (G.single_target p.derived h) p.places_are
 
-pub placed_del_target : {i r : List Terminal} {at behind : ℕ} {e f : Expr} {ps : List Stretch} → Placed Expression i at e r behind ps
-    → deleted e ≡ Some f → PlacedDelTarget i at f r behind ps
+pub placed_del_target : {i r : List Terminal} {at following : ℕ} {e f : Expr} {ps : List Stretch} → Placed Expression i at e r following ps
+    → deleted e ≡ Some f → PlacedDelTarget i at f r following ps
 placed_del_target p h = built (front_of p) (G.del_target p.derived h) p.places_are
 
-pub placed_item_target : {i r : List Terminal} {at behind : ℕ} {e f : Expr} {ps : List Stretch} → Placed Expression i at e r behind ps
-    → stored e ≡ Some f → PlacedItemTarget i at f r behind ps
+pub placed_item_target : {i r : List Terminal} {at following : ℕ} {e f : Expr} {ps : List Stretch} → Placed Expression i at e r following ps
+    → stored e ≡ Some f → PlacedItemTarget i at f r following ps
 placed_item_target p h = built (front_of p) (G.item_target p.derived h) p.places_are
 
-pub placed_star_target : {i r s : List Terminal} {at behind : ℕ} {e f : Expr} {ps : List Stretch} → i ≡ Op Star ∷ r
-    → Placed Expression r (at + 1) e s behind ps → stored (Trees.Starred e Load) ≡ Some f
-    → PlacedItemTarget i at f s behind (ps ++ (stretch at behind ∷ []))
+pub placed_star_target : {i r s : List Terminal} {at following : ℕ} {e f : Expr} {ps : List Stretch} → i ≡ Op Star ∷ r
+    → Placed Expression r (at + 1) e s following ps → stored (Trees.Starred e Load) ≡ Some f
+    → PlacedItemTarget i at f s following (ps ++ (stretch at following ∷ []))
 placed_star_target h p q = built (sign h (front_of p)) (G.star_target p.derived q) (from p (omega arith) ⊕ own (omega (arith, p.ends)))

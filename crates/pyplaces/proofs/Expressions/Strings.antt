@@ -25,9 +25,9 @@ use Rattle.pyplaces.proofs.Fronts.{Front, nothing, sign, both, front_of, from, b
 use Rattle.pyplaces.proofs.Loops.{Grows, grows_turn, grows_quiet, grows_end}
 
 -- ---- A row without an f-string.
-pub placed_strings : {i r : List Terminal} {at behind : ℕ} {a b : Values.Value} (vs : List Values.Value)
-    → i ≡ Literal a ∷ (map Literal vs ++ r) → joined a vs ≡ Some b → at + 1 + length vs ≡ behind
-    → Placed Atom i at (Trees.Constant b) r behind (stretch at behind ∷ [])
+pub placed_strings : {i r : List Terminal} {at following : ℕ} {a b : Values.Value} (vs : List Values.Value)
+    → i ≡ Literal a ∷ (map Literal vs ++ r) → joined a vs ≡ Some b → at + 1 + length vs ≡ following
+    → Placed Atom i at (Trees.Constant b) r following (stretch at following ∷ [])
 placed_strings vs h q e = built (record { is = h; ends = omega (arith, length-map vs Literal, e) }) (G.strings vs q)
     (own (omega (arith, e)))
 
@@ -35,17 +35,17 @@ placed_strings vs h q e = built (record { is = h; ends = omega (arith, length-ma
 pub placed_no_part : {bb : Bool} {r : List Terminal} {at : ℕ} {row : Stretch} → PlacedFormatted bb row r at [] r at []
 placed_no_part = built nothing G.no_part refl
 
-pub placed_text_part : {y : List ℕ} {bb : Bool} {i r s : List Terminal} {at behind : ℕ} {ss : List StringPart} {row : Stretch}
+pub placed_text_part : {y : List ℕ} {bb : Bool} {i r s : List Terminal} {at following : ℕ} {ss : List StringPart} {row : Stretch}
     {fs : List (List Stretch)}
-    → i ≡ FormattedText y ∷ r → PlacedFormatted bb row r (at + 1) ss s behind fs → PlacedFormatted bb row i at (Text y ∷ ss) s behind fs
+    → i ≡ FormattedText y ∷ r → PlacedFormatted bb row r (at + 1) ss s following fs → PlacedFormatted bb row i at (Text y ∷ ss) s following fs
 placed_text_part h p = built (sign h (front_of p)) (G.text_part p.derived) (from p (omega arith))
 
 pub placed_no_spec : {bb : Bool} {r : List Terminal} {at : ℕ} {row : Stretch} → PlacedSpec bb row r at absent r at []
 placed_no_spec = built nothing G.no_spec refl
 
-pub placed_spec : {bb : Bool} {i r s : List Terminal} {at behind : ℕ} {ss : List StringPart} {row : Stretch} {fs : List (List Stretch)}
-    → i ≡ SpecBegin ∷ r → PlacedFormatted bb row r (at + 1) ss s behind fs
-    → PlacedSpec bb row i at (present (Trees.JoinedStr (spec_values_of bb (merged ss)))) s behind
+pub placed_spec : {bb : Bool} {i r s : List Terminal} {at following : ℕ} {ss : List StringPart} {row : Stretch} {fs : List (List Stretch)}
+    → i ≡ SpecBegin ∷ r → PlacedFormatted bb row r (at + 1) ss s following fs
+    → PlacedSpec bb row i at (present (Trees.JoinedStr (spec_values_of bb (merged ss)))) s following
     (string_places row (merged ss) fs ++ (row ∷ []))
 placed_spec {ss = ss} {row = row} h p =
     built (sign h (front_of p)) (G.spec p.derived) (ap (string_places row (merged ss)) (from p (omega arith)) ⊕ refl)
@@ -78,16 +78,16 @@ atom_some _ h = absurd (cc)
 heads : (t y : Terminal) (r s : List Terminal) → t ∷ r ≡ y ∷ s → t ≡ y
 heads t y r s h = cc
 
--- its terminals behind the bracket, with the number before the bracket
-open_atom : {i r s : List Terminal} {at behind : ℕ} {e : Expr} {ps : List Stretch} → Placed Atom i at e r behind ps → i ≡ Op LPar ∷ s
-    → (ts : List Terminal) × (s ≡ ts ++ r) × (at + 1 + length ts ≡ behind) × (d : G.Derives Atom (Op LPar ∷ ts) e) × (places at d ≡ ps)
-open_atom {r = r} {s = s} {at = at} {behind = behind} {e = e} {ps = ps} p h = go p.front p.derived p.ends p.places_are (sym h ∙ p.is)
+-- its terminals after the bracket, with the number before the bracket
+open_atom : {i r s : List Terminal} {at following : ℕ} {e : Expr} {ps : List Stretch} → Placed Atom i at e r following ps → i ≡ Op LPar ∷ s
+    → (ts : List Terminal) × (s ≡ ts ++ r) × (at + 1 + length ts ≡ following) × (d : G.Derives Atom (Op LPar ∷ ts) e) × (places at d ≡ ps)
+open_atom {r = r} {s = s} {at = at} {following = following} {e = e} {ps = ps} p h = go p.front p.derived p.ends p.places_are (sym h ∙ p.is)
   where
-    go : (ts : List Terminal) (d : G.Derives Atom ts e) → at + length ts ≡ behind → places at d ≡ ps → Op LPar ∷ s ≡ ts ++ r
-        → (us : List Terminal) × (s ≡ us ++ r) × (at + 1 + length us ≡ behind) × (k : G.Derives Atom (Op LPar ∷ us) e) × (places at k ≡ ps)
+    go : (ts : List Terminal) (d : G.Derives Atom ts e) → at + length ts ≡ following → places at d ≡ ps → Op LPar ∷ s ≡ ts ++ r
+        → (us : List Terminal) × (s ≡ us ++ r) × (at + 1 + length us ≡ following) × (k : G.Derives Atom (Op LPar ∷ us) e) × (places at k ≡ ps)
     go [] d a b q = absurd (omega (arith, atom_some d refl))
     go (t ∷ ts) d a b q = subst (λ z. (k : G.Derives Atom (z ∷ ts) e) → places at k ≡ ps
-        → (us : List Terminal) × (s ≡ us ++ r) × (at + 1 + length us ≡ behind) × (k : G.Derives Atom (Op LPar ∷ us) e) × (places at k ≡ ps))
+        → (us : List Terminal) × (s ≡ us ++ r) × (at + 1 + length us ≡ following) × (k : G.Derives Atom (Op LPar ∷ us) e) × (places at k ≡ ps))
         (heads (Op LPar) t s (ts ++ r) q) (λ k w. (ts, tails (Op LPar) t s (ts ++ r) q, omega (arith, a), k, w)) d b
 
 field_part : {bb : Bool} {i r s x1 u v w : List Terminal} {at m n k : ℕ} {e : Expr} {o : OptionalExpr} {c : Conversion}
@@ -129,16 +129,16 @@ parts_end g = grows_end g placed_no_part
 pub placed_no_literal : {bb : Bool} {r : List Terminal} {at : ℕ} {row : Stretch} → PlacedLiterals bb row r at [] r at []
 placed_no_literal = built nothing G.no_literal refl
 
-pub placed_text_literal : {y : List ℕ} {d bb : Bool} {i r s : List Terminal} {at behind : ℕ} {ss : List StringPart} {row : Stretch}
+pub placed_text_literal : {y : List ℕ} {d bb : Bool} {i r s : List Terminal} {at following : ℕ} {ss : List StringPart} {row : Stretch}
     {fs : List (List Stretch)}
-    → i ≡ Literal (Values.Str y d) ∷ r → PlacedLiterals bb row r (at + 1) ss s behind fs
-    → PlacedLiterals bb row i at (Text y ∷ ss) s behind fs
+    → i ≡ Literal (Values.Str y d) ∷ r → PlacedLiterals bb row r (at + 1) ss s following fs
+    → PlacedLiterals bb row i at (Text y ∷ ss) s following fs
 placed_text_literal h p = built (sign h (front_of p)) (G.text_literal p.derived) (from p (omega arith))
 
-pub placed_formatted_literal : {bb : Bool} {i r s u v : List Terminal} {at m behind : ℕ} {ss ys : List StringPart} {row : Stretch}
+pub placed_formatted_literal : {bb : Bool} {i r s u v : List Terminal} {at m following : ℕ} {ss ys : List StringPart} {row : Stretch}
     {fs gs : List (List Stretch)}
     → i ≡ FormattedBegin ∷ r → PlacedFormatted bb row r (at + 1) ss s m fs → s ≡ FormattedEnd ∷ u
-    → PlacedLiterals bb row u (m + 1) ys v behind gs → PlacedLiterals bb row i at (ss ++ ys) v behind (fs ++ gs)
+    → PlacedLiterals bb row u (m + 1) ys v following gs → PlacedLiterals bb row i at (ss ++ ys) v following (fs ++ gs)
 placed_formatted_literal h p k q = built (sign h (both (front_of p) (sign k (front_of q)))) (G.formatted_literal p.derived q.derived)
     (from p (omega arith) ⊕ from q (omega (arith, p.ends)))
 
@@ -158,33 +158,33 @@ pub literals_end : {bb : Bool} {i r : List Terminal} {at m : ℕ} {ss : List Str
     → Grows (PlacedLiterals bb row) i at ss r m fs → PlacedLiterals bb row i at ss r m fs
 literals_end g = grows_end g placed_no_literal
 
-pub placed_joined_string : {bb : Bool} {i r : List Terminal} {at behind : ℕ} {ss : List StringPart} {fs : List (List Stretch)}
-    → (p : PlacedLiterals bb (stretch at behind) i at ss r behind fs) → begins_unicode p.front ≡ bb → has_formatted p.front ≡ true
-    → Placed Atom i at (Trees.JoinedStr (values_of bb (merged ss))) r behind
-    (string_places (stretch at behind) (merged ss) fs ++ (stretch at behind ∷ []))
-placed_joined_string {at = at} {behind = behind} {ss = ss} {fs = fs} p b f = built (front_of p) (G.joined_string p.derived b f)
+pub placed_joined_string : {bb : Bool} {i r : List Terminal} {at following : ℕ} {ss : List StringPart} {fs : List (List Stretch)}
+    → (p : PlacedLiterals bb (stretch at following) i at ss r following fs) → begins_unicode p.front ≡ bb → has_formatted p.front ≡ true
+    → Placed Atom i at (Trees.JoinedStr (values_of bb (merged ss))) r following
+    (string_places (stretch at following) (merged ss) fs ++ (stretch at following ∷ []))
+placed_joined_string {at = at} {following = following} {ss = ss} {fs = fs} p b f = built (front_of p) (G.joined_string p.derived b f)
     (subst (λ z. string_places (stretch at z) (merged ss) (literals_places (stretch at z) at p.derived) ++ (stretch at z ∷ [])
-    ≡ string_places (stretch at behind) (merged ss) fs ++ (stretch at behind ∷ [])) (sym p.ends)
-    (ap (string_places (stretch at behind) (merged ss)) p.places_are ⊕ refl))
+    ≡ string_places (stretch at following) (merged ss) fs ++ (stretch at following ∷ [])) (sym p.ends)
+    (ap (string_places (stretch at following) (merged ss)) p.places_are ⊕ refl))
 
 some_parts : (a b : List StringPart) → Some a ≡ Some b → a ≡ b
 some_parts a b h = cc
 
 -- texts in front of the first f-string
-pub placed_texts : {bb : Bool} {row : Stretch} {r s : List Terminal} {n behind : ℕ} {ys : List StringPart} {fs : List (List Stretch)}
+pub placed_texts : {bb : Bool} {row : Stretch} {r s : List Terminal} {n following : ℕ} {ys : List StringPart} {fs : List (List Stretch)}
     (vs : List Values.Value) (ss : List StringPart) (i : List Terminal) (at : ℕ) → texts_of vs ≡ Some ss → i ≡ map Literal vs ++ r
-    → at + length vs ≡ n → PlacedLiterals bb row r n ys s behind fs → PlacedLiterals bb row i at (ss ++ ys) s behind fs
-placed_texts {bb} {row} {r} {s} {n} {behind} {ys} {fs} [] ss i at h q e c =
-    subst (λ z. PlacedLiterals bb row i at (z ++ ys) s behind fs) (some_parts [] ss h)
-    (subst (λ z. PlacedLiterals bb row z at ys s behind fs) (sym q)
-    (subst (λ z. PlacedLiterals bb row r z ys s behind fs) (omega (arith, e)) c))
-placed_texts {bb} {row} {r} {s} {n} {behind} {ys} {fs} (Values.Str t k ∷ vs) ss i at h q e c =
+    → at + length vs ≡ n → PlacedLiterals bb row r n ys s following fs → PlacedLiterals bb row i at (ss ++ ys) s following fs
+placed_texts {bb} {row} {r} {s} {n} {following} {ys} {fs} [] ss i at h q e c =
+    subst (λ z. PlacedLiterals bb row i at (z ++ ys) s following fs) (some_parts [] ss h)
+    (subst (λ z. PlacedLiterals bb row z at ys s following fs) (sym q)
+    (subst (λ z. PlacedLiterals bb row r z ys s following fs) (omega (arith, e)) c))
+placed_texts {bb} {row} {r} {s} {n} {following} {ys} {fs} (Values.Str t k ∷ vs) ss i at h q e c =
     go (texts_of vs) refl h (λ xs f. placed_texts vs xs (map Literal vs ++ r) (at + 1) f refl (omega (arith, e)) c)
   where
     go : (o : Option (List StringPart)) → texts_of vs ≡ o → option_map (λ z. Text t ∷ z) o ≡ Some ss
-        → ((xs : List StringPart) → texts_of vs ≡ Some xs → PlacedLiterals bb row (map Literal vs ++ r) (at + 1) (xs ++ ys) s behind fs)
-        → PlacedLiterals bb row i at (ss ++ ys) s behind fs
+        → ((xs : List StringPart) → texts_of vs ≡ Some xs → PlacedLiterals bb row (map Literal vs ++ r) (at + 1) (xs ++ ys) s following fs)
+        → PlacedLiterals bb row i at (ss ++ ys) s following fs
     go None f w g = absurd (cc)
-    go (Some xs) f w g = subst (λ z. PlacedLiterals bb row i at (z ++ ys) s behind fs) (some_parts (Text t ∷ xs) ss w)
+    go (Some xs) f w g = subst (λ z. PlacedLiterals bb row i at (z ++ ys) s following fs) (some_parts (Text t ∷ xs) ss w)
         (placed_text_literal q (g xs f))
 placed_texts (_ ∷ vs) ss i at h q e c = absurd (cc)

@@ -20,7 +20,7 @@ use Rattle.pytoken.specs.Terminals.{Terminal, Op, Word}
 use Rattle.pygrammar.specs.Looks.{is_word}
 use Rattle.pygrammar.specs.Operators.{below, chain_level, chain_word, comparison, left_operator, prefix_operator, rank}
 use Rattle.pygrammar.specs.Reader.{on_some}
-use Rattle.pygrammar.specs.Precedence.{Infix, Left, Joins, Prefix, Signed, infix_rank, behind, prefix_rank, before}
+use Rattle.pygrammar.specs.Precedence.{Infix, Left, Joins, Prefix, Signed, infix_rank, following, prefix_rank, before}
 use Rattle.pygrammar.specs.Precedence.{at_least, infix_from, prefix_from}
 use Rattle.pygrammar.proofs.Callers.Steps.{same_left, same_signed}
 use Rattle.pyplaces.specs.Rests.{Lacks}
@@ -38,7 +38,7 @@ turns [] = omega arith
 turns (t ∷ r) = omega (arith, turn_max t)
 
 -- the turn of an operator that stands first
-pub turn_is : {r s : List Terminal} {t : Terminal} {o : Infix} → r ≡ t ∷ s → behind t ≡ Some o → turn_of r ≡ infix_rank o
+pub turn_is : {r s : List Terminal} {t : Terminal} {o : Infix} → r ≡ t ∷ s → following t ≡ Some o → turn_of r ≡ infix_rank o
 turn_is h f = ap turn_of h ∙ ap (λ o. on_some o infix_rank 0) f
 
 -- ---- What tests by ranks tell.
@@ -49,8 +49,8 @@ some_infix a o h = cc
 some_prefix : (a o : Prefix) → Some a ≡ Some o → a ≡ o
 some_prefix a o h = cc
 
-pub infix_hit : (k : ℕ) (t : Terminal) (o : Infix) → infix_from k t ≡ Some o → (behind t ≡ Some o) × (k ≤ infix_rank o)
-infix_hit k t o h = go (behind t) h
+pub infix_hit : (k : ℕ) (t : Terminal) (o : Infix) → infix_from k t ≡ Some o → (following t ≡ Some o) × (k ≤ infix_rank o)
+infix_hit k t o h = go (following t) h
   where
     by : (a : Infix) (b : Bool) → leb k (infix_rank a) ≡ b → cond b (Some a) None ≡ Some o → (Some a ≡ Some o) × (k ≤ infix_rank o)
     by a true q h = (h, subst (λ z. k ≤ infix_rank z) (some_infix a o h) (leb-true k (infix_rank a) q))
@@ -88,7 +88,7 @@ infix_miss k (Some a) h p = go (leb k (infix_rank a)) refl h
 -- the loop of climbing ended
 pub ended : (k : ℕ) (r : List Terminal) → 0 < k → ((t : Terminal) (s : List Terminal) → r ≡ t ∷ s → infix_from k t ≡ None) → Ended k r
 ended k [] p f = p
-ended k (t ∷ s) p f = infix_miss k (behind t) (f t s refl) p
+ended k (t ∷ s) p f = infix_miss k (following t) (f t s refl) p
 
 -- ---- Levels.
 
@@ -125,7 +125,7 @@ facts : (t : Terminal) (l : Level) (o : Operator) → left_operator l t ≡ Some
     → 14 ≤ rank l → rank l ≤ 19 → LeftFacts t l o
 facts t l o a b c d e = record { operator = a; next = b; follows = c; least = d; most = e }
 
-pub left_facts : (t : Terminal) (l : Level) (o : Operator) → behind t ≡ Some (Left l o) → LeftFacts t l o
+pub left_facts : (t : Terminal) (l : Level) (o : Operator) → following t ≡ Some (Left l o) → LeftFacts t l o
 left_facts (Op VBar) l o h = same_left (LeftFacts (Op VBar)) BitOr l Bin.BitOr o (facts _ _ _ refl refl refl (omega arith) (omega arith)) h
 left_facts (Op Circumflex) l o h =
     same_left (LeftFacts (Op Circumflex)) BitXor l Bin.BitXor o (facts _ _ _ refl refl refl (omega arith) (omega arith)) h
@@ -149,7 +149,7 @@ left_facts (Word Key.As) l o h = absurd (cc)
 left_facts (Word _) l o h = absurd (cc)
 left_facts _ l o h = absurd (cc)
 
-pub joins_is : (t : Terminal) (o : BoolOperator) → behind t ≡ Some (Joins o) → t ≡ Word (chain_word o)
+pub joins_is : (t : Terminal) (o : BoolOperator) → following t ≡ Some (Joins o) → t ≡ Word (chain_word o)
 joins_is (Word Key.And) Join.And h = refl
 joins_is (Word Key.Or) Join.Or h = refl
 joins_is (Word Key.And) Join.Or h = absurd (cc)

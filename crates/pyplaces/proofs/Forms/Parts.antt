@@ -18,25 +18,25 @@ use Rattle.pygrammar.specs.Forms.{alias}
 use Rattle.pyplaces.specs.Stretches.{Stretch, stretch}
 use Rattle.pyplaces.specs.FormPlaces.{commas_places, ended_places, type_param_places, name_alias_places}
 use Rattle.pyplaces.specs.Placed.{Placed, PlacedTarget}
-use Rattle.pyplaces.specs.PlacedForms.{Bare, PlacedOptional, PlacedBehind, PlacedOne, PlacedCommas, PlacedEnded, Commaed, no_more, more}
+use Rattle.pyplaces.specs.PlacedForms.{Bare, PlacedOptional, PlacedAfter, PlacedOne, PlacedCommas, PlacedEnded, Commaed, no_more, more}
 use Rattle.pyplaces.specs.PlacedForms.{PlacedTypeParam, PlacedTypeParams, PlacedNames, PlacedTargets}
 use Rattle.pyplaces.proofs.Fronts.{Front, nothing, sign, both, front_of, from, built, ◌⊕◌, own}
 use Rattle.pyplaces.proofs.Loops.{Grows, grows_turn, grows_end}
 
--- an expression that may stand there; one behind a sign or a word
+-- an expression that may stand there; one after a sign or a word
 pub placed_left_out : {l : Level} {r : List Terminal} {at : ℕ} → PlacedOptional l r at None r at []
 placed_left_out = built nothing F.left_out refl
 
-pub placed_given : {l : Level} {i r : List Terminal} {at behind : ℕ} {e : Expr} {ps : List Stretch} → Placed l i at e r behind ps
-    → PlacedOptional l i at (Some e) r behind ps
+pub placed_given : {l : Level} {i r : List Terminal} {at following : ℕ} {e : Expr} {ps : List Stretch} → Placed l i at e r following ps
+    → PlacedOptional l i at (Some e) r following ps
 placed_given p = built (front_of p) (F.given p.derived) p.places_are
 
-pub placed_none_behind : {l : Level} {t : Terminal} {r : List Terminal} {at : ℕ} → PlacedBehind t l r at None r at []
-placed_none_behind = built nothing F.none_behind refl
+pub placed_none_after : {l : Level} {t : Terminal} {r : List Terminal} {at : ℕ} → PlacedAfter t l r at None r at []
+placed_none_after = built nothing F.none_after refl
 
-pub placed_behind : {l : Level} {t : Terminal} {i r s : List Terminal} {at behind : ℕ} {e : Expr} {ps : List Stretch} → i ≡ t ∷ r
-    → Placed l r (at + 1) e s behind ps → PlacedBehind t l i at (Some e) s behind ps
-placed_behind h p = built (sign h (front_of p)) (F.behind p.derived) (from p (omega arith))
+pub placed_after : {l : Level} {t : Terminal} {i r s : List Terminal} {at following : ℕ} {e : Expr} {ps : List Stretch} → i ≡ t ∷ r
+    → Placed l r (at + 1) e s following ps → PlacedAfter t l i at (Some e) s following ps
+placed_after h p = built (sign h (front_of p)) (F.following p.derived) (from p (omega arith))
 
 pub bare_no_async : {r : List Terminal} {at : ℕ} → Bare (λ ts. F.Async ts false) r at r at
 bare_no_async = built nothing F.no_async refl
@@ -46,21 +46,21 @@ bare_async h = built (sign h nothing) F.async refl
 
 -- ---- X,.. and X,.. [,]
 
-front_as : {i ts us r : List Terminal} {at behind : ℕ} → ts ≡ us → Front i at ts r behind → Front i at us r behind
-front_as {i} {r = r} {at = at} {behind = behind} h f = subst (λ z. Front i at z r behind) h f
+front_as : {i ts us r : List Terminal} {at following : ℕ} → ts ≡ us → Front i at ts r following → Front i at us r following
+front_as {i} {r = r} {at = at} {following = following} h f = subst (λ z. Front i at z r following) h f
 
 module _ {A : Type 0} {X : List Terminal → A → Type 0} {one : (ts : List Terminal) (a : A) → ℕ → X ts a → List Stretch} where
-  pub placed_alone : {i r : List Terminal} {at behind : ℕ} {x : A} {ps : List Stretch} → PlacedOne A X one i at x r behind ps
-      → PlacedCommas A X one i at (x ∷ []) r behind ps
+  pub placed_alone : {i r : List Terminal} {at following : ℕ} {x : A} {ps : List Stretch} → PlacedOne A X one i at x r following ps
+      → PlacedCommas A X one i at (x ∷ []) r following ps
   placed_alone p = built (front_of p) (F.alone p.derived) p.places_are
 
-  pub placed_comma : {i r s u : List Terminal} {at m behind : ℕ} {x : A} {xs : List A} {ps qs : List Stretch}
-      → PlacedOne A X one i at x r m ps → r ≡ Op Sign.Comma ∷ s → PlacedCommas A X one s (m + 1) xs u behind qs
-      → PlacedCommas A X one i at (x ∷ xs) u behind (ps ++ qs)
+  pub placed_comma : {i r s u : List Terminal} {at m following : ℕ} {x : A} {xs : List A} {ps qs : List Stretch}
+      → PlacedOne A X one i at x r m ps → r ≡ Op Sign.Comma ∷ s → PlacedCommas A X one s (m + 1) xs u following qs
+      → PlacedCommas A X one i at (x ∷ xs) u following (ps ++ qs)
   placed_comma p h c = built (both (front_of p) (sign h (front_of c))) (F.comma p.derived c.derived)
       (p.places_are ⊕ from c (omega (arith, p.ends)))
 
-  -- a loop whose turns begin behind a comma, and that no comma ends
+  -- a loop whose turns begin after a comma, and that no comma ends
   pub commas_turn : {i r s u : List Terminal} {at m n : ℕ} {x : A} {xs : List A} {ps qs : List Stretch}
       → Grows (PlacedCommas A X one) i at xs r m ps → PlacedOne A X one r m x s n qs → s ≡ Op Sign.Comma ∷ u
       → Grows (PlacedCommas A X one) i at (xs ++ (x ∷ [])) u (n + 1) (ps ++ qs)
@@ -71,36 +71,36 @@ module _ {A : Type 0} {X : List Terminal → A → Type 0} {one : (ts : List Ter
       → PlacedCommas A X one i at (xs ++ (x ∷ [])) s n (ps ++ qs)
   commas_last {x = x} g p = g.so (x ∷ []) _ _ _ (placed_alone p)
 
-  pub placed_bare : {i r : List Terminal} {at behind : ℕ} {xs : List A} {ps : List Stretch} → PlacedCommas A X one i at xs r behind ps
-      → PlacedEnded A X one i at xs r behind ps
+  pub placed_bare : {i r : List Terminal} {at following : ℕ} {xs : List A} {ps : List Stretch} → PlacedCommas A X one i at xs r following ps
+      → PlacedEnded A X one i at xs r following ps
   placed_bare c = built (front_of c) (F.ends_bare c.derived) c.places_are
 
   -- one more in front
-  ended_more : {i r s u : List Terminal} {at m behind : ℕ} {x : A} {xs : List A} {ps qs : List Stretch}
-      → PlacedOne A X one i at x r m ps → r ≡ Op Sign.Comma ∷ s → PlacedEnded A X one s (m + 1) xs u behind qs
-      → PlacedEnded A X one i at (x ∷ xs) u behind (ps ++ qs)
-  ended_more {i} {r} {s} {u} {at} {m} {behind} {x} {xs} {ps} {qs} p h c = go (front_of c) c.derived c.places_are
+  ended_more : {i r s u : List Terminal} {at m following : ℕ} {x : A} {xs : List A} {ps qs : List Stretch}
+      → PlacedOne A X one i at x r m ps → r ≡ Op Sign.Comma ∷ s → PlacedEnded A X one s (m + 1) xs u following qs
+      → PlacedEnded A X one i at (x ∷ xs) u following (ps ++ qs)
+  ended_more {i} {r} {s} {u} {at} {m} {following} {x} {xs} {ps} {qs} p h c = go (front_of c) c.derived c.places_are
     where
-      go : {ts : List Terminal} → Front s (m + 1) ts u behind → (d : F.Commas? A X ts xs) → ended_places A X one (m + 1) d ≡ qs
-          → PlacedEnded A X one i at (x ∷ xs) u behind (ps ++ qs)
+      go : {ts : List Terminal} → Front s (m + 1) ts u following → (d : F.Commas? A X ts xs) → ended_places A X one (m + 1) d ≡ qs
+          → PlacedEnded A X one i at (x ∷ xs) u following (ps ++ qs)
       go f (F.ends_bare d) q = built (both (front_of p) (sign h f)) (F.ends_bare (F.comma p.derived d))
           (p.places_are ⊕ (ap (λ n. commas_places A X one n d) (omega (arith, p.ends)) ∙ q))
       go f (F.ends_comma {ts = ts} d) q = built
           (front_as (sym (append_assoc p.front (Op Sign.Comma ∷ ts) (Op Sign.Comma ∷ []))) (both (front_of p) (sign h f)))
           (F.ends_comma (F.comma p.derived d)) (p.places_are ⊕ (ap (λ n. commas_places A X one n d) (omega (arith, p.ends)) ∙ q))
 
-  pub commaed_last : {i r : List Terminal} {at behind : ℕ} {x : A} {ps : List Stretch} → PlacedOne A X one i at x r behind ps
-      → Commaed A X one i at (x ∷ []) r behind ps
+  pub commaed_last : {i r : List Terminal} {at following : ℕ} {x : A} {ps : List Stretch} → PlacedOne A X one i at x r following ps
+      → Commaed A X one i at (x ∷ []) r following ps
   commaed_last p = more (built (front_of p) (F.ends_bare (F.alone p.derived)) p.places_are)
 
-  commaed_more : {i r s u : List Terminal} {at m behind : ℕ} {x : A} {xs : List A} {ps qs : List Stretch}
-      → PlacedOne A X one i at x r m ps → r ≡ Op Sign.Comma ∷ s → Commaed A X one s (m + 1) xs u behind qs
-      → Commaed A X one i at (x ∷ xs) u behind (ps ++ qs)
+  commaed_more : {i r s u : List Terminal} {at m following : ℕ} {x : A} {xs : List A} {ps qs : List Stretch}
+      → PlacedOne A X one i at x r m ps → r ≡ Op Sign.Comma ∷ s → Commaed A X one s (m + 1) xs u following qs
+      → Commaed A X one i at (x ∷ xs) u following (ps ++ qs)
   commaed_more {ps = ps} p h no_more = more (built (both (front_of p) (sign h nothing)) (F.ends_comma (F.alone p.derived))
       (p.places_are ∙ sym (append-nil ps)))
   commaed_more p h (more c) = more (ended_more p h c)
 
-  -- a loop whose turns begin behind a comma, which may end it
+  -- a loop whose turns begin after a comma, which may end it
   pub commaed_turn : {i r s u : List Terminal} {at m n : ℕ} {x : A} {xs : List A} {ps qs : List Stretch}
       → Grows (Commaed A X one) i at xs r m ps → PlacedOne A X one r m x s n qs → s ≡ Op Sign.Comma ∷ u
       → Grows (Commaed A X one) i at (xs ++ (x ∷ [])) u (n + 1) (ps ++ qs)
@@ -116,14 +116,14 @@ module _ {A : Type 0} {X : List Terminal → A → Type 0} {one : (ts : List Ter
   commaed_with {x = x} g p = g.so (x ∷ []) _ _ _ (commaed_last p)
 
   -- where one was read
-  pub commaed_some : {i r : List Terminal} {at behind : ℕ} {x : A} {xs : List A} {ps : List Stretch}
-      → Commaed A X one i at (x ∷ xs) r behind ps → PlacedEnded A X one i at (x ∷ xs) r behind ps
+  pub commaed_some : {i r : List Terminal} {at following : ℕ} {x : A} {xs : List A} {ps : List Stretch}
+      → Commaed A X one i at (x ∷ xs) r following ps → PlacedEnded A X one i at (x ∷ xs) r following ps
   commaed_some (more c) = c
 
 -- ---- Parameters of types.
-pub placed_type_var : {x : Spelled} {i r s : List Terminal} {at behind : ℕ} {ps : List Stretch} {eo : Option Expr} → i ≡ Ident x ∷ r
-    → PlacedBehind (Op Sign.Colon) Expression r (at + 1) eo s behind ps
-    → PlacedTypeParam i at (TypeVar x.form eo) s behind (ps ++ (stretch at behind ∷ []))
+pub placed_type_var : {x : Spelled} {i r s : List Terminal} {at following : ℕ} {ps : List Stretch} {eo : Option Expr} → i ≡ Ident x ∷ r
+    → PlacedAfter (Op Sign.Colon) Expression r (at + 1) eo s following ps
+    → PlacedTypeParam i at (TypeVar x.form eo) s following (ps ++ (stretch at following ∷ []))
 placed_type_var h p = built (sign h (front_of p)) (F.type_var p.derived) (from p (omega arith) ⊕ own (omega (arith, p.ends)))
 
 pub placed_type_var_tuple : {x : Spelled} {i r s : List Terminal} {at : ℕ} → i ≡ Op Sign.Star ∷ r → r ≡ Ident x ∷ s
@@ -146,8 +146,8 @@ pub placed_all_names : {i r : List Terminal} {at : ℕ} → i ≡ Op Sign.Star �
     → PlacedNames i at (alias (asterisk ∷ []) None ∷ []) r (at + 1) (stretch at (at + 1) ∷ [])
 placed_all_names h = built (sign h nothing) F.all_names refl
 
-pub placed_names : {i r : List Terminal} {at behind : ℕ} {ps : List Stretch} {als : List Alias}
-    → PlacedCommas Alias F.NameAlias (λ ts a. name_alias_places) i at als r behind ps → PlacedNames i at als r behind ps
+pub placed_names : {i r : List Terminal} {at following : ℕ} {ps : List Stretch} {als : List Alias}
+    → PlacedCommas Alias F.NameAlias (λ ts a. name_alias_places) i at als r following ps → PlacedNames i at als r following ps
 placed_names c = built (front_of c) (F.names c.derived) c.places_are
 
 pub placed_bracketed_names : {i r s u : List Terminal} {at m : ℕ} {ps : List Stretch} {als : List Alias} → i ≡ Op Sign.LPar ∷ r
@@ -155,17 +155,17 @@ pub placed_bracketed_names : {i r s u : List Terminal} {at m : ℕ} {ps : List S
     → PlacedNames i at als u (m + 1) ps
 placed_bracketed_names h c k = built (sign h (both (front_of c) (sign k nothing))) (F.bracketed_names c.derived) (from c (omega arith))
 
-pub placed_more_targets : {i r s u : List Terminal} {at m behind : ℕ} {e : Expr} {es : List Expr} {ps qs : List Stretch}
-    → PlacedTarget i at e r m ps → r ≡ Op Sign.Equal ∷ s → PlacedTargets s (m + 1) es u behind qs
-    → PlacedTargets i at (e ∷ es) u behind (ps ++ qs)
+pub placed_more_targets : {i r s u : List Terminal} {at m following : ℕ} {e : Expr} {es : List Expr} {ps qs : List Stretch}
+    → PlacedTarget i at e r m ps → r ≡ Op Sign.Equal ∷ s → PlacedTargets s (m + 1) es u following qs
+    → PlacedTargets i at (e ∷ es) u following (ps ++ qs)
 placed_more_targets p h c = built (both (front_of p) (sign h (front_of c))) (F.more_targets p.derived c.derived)
     (p.places_are ⊕ from c (omega (arith, p.ends)))
 
 -- none, or some
 pub data Assigned : List Terminal → ℕ → List Expr → List Terminal → ℕ → List Stretch → Type 0 where
   no_target : {r : List Terminal} {at : ℕ} → Assigned r at [] r at []
-  targets : {i r : List Terminal} {at behind : ℕ} {e : Expr} {es : List Expr} {ps : List Stretch} → PlacedTargets i at (e ∷ es) r behind ps
-      → Assigned i at (e ∷ es) r behind ps
+  targets : {i r : List Terminal} {at following : ℕ} {e : Expr} {es : List Expr} {ps : List Stretch} → PlacedTargets i at (e ∷ es) r following ps
+      → Assigned i at (e ∷ es) r following ps
 
 pub assigned_more : {i r s u : List Terminal} {at m n : ℕ} {e : Expr} {es : List Expr} {ps qs : List Stretch} → PlacedTarget i at e r m ps
     → r ≡ Op Sign.Equal ∷ s → Assigned s (m + 1) es u n qs → Assigned i at (e ∷ es) u n (ps ++ qs)

@@ -40,8 +40,8 @@ to_primary s (G.yields (G.yield_from p)) h = absurd (cc)
 to_primary s (G.yields (G.yield_some p)) h = absurd (cc)
 to_primary s _ h = absurd (cc)
 
-pub single_target : {l : Level} {i r : List Terminal} {at behind : ℕ} {e s : Expr} {ps : List Stretch} → Placed l i at e r behind ps
-    → single_stored e ≡ Some s → PlacedSingleTarget i at s r behind ps
+pub single_target : {l : Level} {i r : List Terminal} {at following : ℕ} {e s : Expr} {ps : List Stretch} → Placed l i at e r following ps
+    → single_stored e ≡ Some s → PlacedSingleTarget i at s r following ps
 single_target {at = at} {s = s} p h =
     let d = to_primary s p.derived h in placed_single_target (built {f = λ ts. places} (front_of p) d.0 (d.1 at ∙ p.places_are)) h
 
@@ -78,8 +78,8 @@ value_inv (G.yields (G.yield_from p)) = inr refl
 value_inv (G.yields (G.yield_some p)) = inr refl
 value_inv _ = tt
 
-pub value_target : {i r : List Terminal} {at behind : ℕ} {e s : Expr} {ps : List Stretch} → Placed Value i at e r behind ps
-    → stored e ≡ Some s → PlacedTarget i at s r behind ps
+pub value_target : {i r : List Terminal} {at following : ℕ} {e s : Expr} {ps : List Stretch} → Placed Value i at e r following ps
+    → stored e ≡ Some s → PlacedTarget i at s r following ps
 value_target {at = at} {s = s} p h = elim (value_inv p.derived) [
   | inl d ↦ placed_target (built {f = λ ts. places} (front_of p) d.0 (d.1 at ∙ p.places_are)) h
   | inr u ↦ absurd (some_none s (sym h ∙ u))
@@ -107,18 +107,18 @@ name_inv s (G.yield_group (G.yield_some p)) h k = absurd (cc)
 name_inv s _ h k = absurd (cc)
 
 -- a Name in front of a sign that it doesn't stand alone before: its brackets, and the target in them
-pub record Grouped (i : List Terminal) (at : ℕ) (s : Expr) (r : List Terminal) (behind : ℕ) (ps : List Stretch) : Type 0 where
+pub record Grouped (i : List Terminal) (at : ℕ) (s : Expr) (r : List Terminal) (following : ℕ) (ps : List Stretch) : Type 0 where
   pub inside : List Terminal
   pub last : List Terminal
   pub stop : ℕ
   pub open_is : i ≡ Op Sign.LPar ∷ inside
   pub target : PlacedSingleTarget inside (at + 1) s last stop ps
   pub close_is : last ≡ Op Sign.RPar ∷ r
-  pub ends : stop + 1 ≡ behind
+  pub ends : stop + 1 ≡ following
 
-pub grouped_name : {l : Level} {i r : List Terminal} {at behind : ℕ} {e s : Expr} {ps : List Stretch} → Placed l i at e r behind ps
-    → single_stored e ≡ Some s → is_name e ≡ true → ((x : Spelled) → i ≡ Ident x ∷ r → ⊥) → Grouped i at s r behind ps
-grouped_name {r = r} {at = at} {behind = behind} {s = s} p h k f = elim (name_inv s p.derived h k) [
+pub grouped_name : {l : Level} {i r : List Terminal} {at following : ℕ} {e s : Expr} {ps : List Stretch} → Placed l i at e r following ps
+    → single_stored e ≡ Some s → is_name e ≡ true → ((x : Spelled) → i ≡ Ident x ∷ r → ⊥) → Grouped i at s r following ps
+grouped_name {r = r} {at = at} {following = following} {s = s} p h k f = elim (name_inv s p.derived h k) [
   | inl u ↦ absurd (f u.0 (p.is ∙ ap (λ z. z ++ r) u.1))
   | inr u ↦ record {
     inside = u.0 ++ (Op Sign.RPar ∷ r);

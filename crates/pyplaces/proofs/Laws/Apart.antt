@@ -152,7 +152,7 @@ mutual
       (simp length-append (omega arith))
 
   pub laminar_literals : {u : Bool} {ts : List Terminal} {ps : List StringPart} (row : Stretch) (at : ℕ) (d : G.Literals u ts ps)
-      → row.first ≤ at → at + length ts ≤ row.behind
+      → row.first ≤ at → at + length ts ≤ row.following
       → InRow row at (at + length ts) (together (literals_places row at d))
   laminar_literals row at G.no_literal g h = row_none (omega arith) g h
   laminar_literals row at (G.text_literal c) g h =
@@ -165,7 +165,7 @@ mutual
       (simp length-append (omega arith)) g h)
 
   pub laminar_formatted : {u : Bool} {ts : List Terminal} {ps : List StringPart} (row : Stretch) (at : ℕ) (d : G.Formatted u ts ps)
-      → row.first ≤ at → at + length ts ≤ row.behind
+      → row.first ≤ at → at + length ts ≤ row.following
       → InRow row at (at + length ts) (together (formatted_places row at d))
   laminar_formatted row at G.no_part g h = row_none (omega arith) g h
   laminar_formatted row at (G.text_part c) g h =
@@ -178,7 +178,7 @@ mutual
       (simp length-append (omega arith)) g h
 
   pub laminar_spec : {u : Bool} {ts : List Terminal} {e : OptionalExpr} (row : Stretch) (at : ℕ) (d : G.Spec u ts e) → row.first ≤ at
-      → at + length ts ≤ row.behind
+      → at + length ts ≤ row.following
       → InRow row at (at + length ts) (spec_places row at d)
   laminar_spec row at G.no_spec g h = row_none (omega arith) g h
   laminar_spec row at (G.spec {ps = ps} c) g h =

@@ -24,14 +24,14 @@ use Rattle.pyplaces.specs.BlockPlaces.{final_places, body_places, alternative_pl
 use Rattle.pyplaces.specs.BlockPlaces.{ending_places}
 use Rattle.pyplaces.specs.ModulePlaces.{formed_places, module_places}
 use Rattle.pyplaces.proofs.Laws.Many.{Many, many, none, one, ◌⊕◌}
-use Rattle.pyplaces.proofs.Laws.Forms.{before_count, behind_count, suite_count, line_before, line_behind, line_suite}
+use Rattle.pyplaces.proofs.Laws.Forms.{before_count, after_count, suite_count, line_before, line_following, line_suite}
 use Rattle.pyplaces.proofs.Laws.Forms.{count_form}
 
 -- ---- Lines, each with its places.
 
 pub record LineCounted (profile : Profile) (f : Form) (z : LinePlaces) : Type 0 where
   pub before : Many z.before (line_before f)
-  pub behind : Many z.behind (line_behind profile f)
+  pub following : Many z.following (line_following profile f)
   pub suite : Many z.suite (line_suite profile f)
 
 pub data LinesCounted (profile : Profile) : List Line → List LinePlaces → Type 0 where
@@ -95,7 +95,7 @@ case_count profile pattern guard body cs =
     let m1 = option_sum (codes "guard") guard last in omega (arith, m1)
 
 definition_count : (profile : Profile) (head : DefHead) (es : List Expr) (body : List Stmt)
-    → before_count (def_header head) + (rows profile body + (marked_rows (shown_exprs (exprs es)) + (behind_count profile (def_header head)
+    → before_count (def_header head) + (rows profile body + (marked_rows (shown_exprs (exprs es)) + (after_count profile (def_header head)
     + 1))) ≡ rows profile (definition es head body ∷ [])
 definition_count profile (function_head false x ps a r) es body =
     let m1 = option_sum (codes "returns") r (left_out (type_params_field profile ps)) in omega (arith, m1)
@@ -115,7 +115,7 @@ as_list h p = record { is = ap length h ∙ p.is }
 
 pub definition_is : {l : ℕ} {suite : Option (List Stmt)} {xs : List Line} {ss : List Stmt} (ds : List LinePlaces) (z : LinePlaces)
     (zs : List LinePlaces) (b : B.Body l suite xs ss) →
-    definition_places ds (z ∷ zs) b ≡ z.before ++ (body_places z zs b ++ (decorator_places ds ++ (z.behind ++ own z zs)))
+    definition_places ds (z ∷ zs) b ≡ z.before ++ (body_places z zs b ++ (decorator_places ds ++ (z.following ++ own z zs)))
 definition_is ds z zs B.inline = refl
 definition_is ds z zs (B.indented b) = refl
 
@@ -130,7 +130,7 @@ definition_counted : {profile : Profile} {l : ℕ} {suite : Option (List Stmt)} 
     → Many (definition_places dz zs b) (rows profile (definition es head body ∷ []))
 definition_counted {profile} {es = es} {body = body} {dz = dz} head b p d e (a_line {z = z} {zs = zs} h c) =
     as_list (definition_is dz z zs b)
-    (many (h.before ⊕ (p z zs h.suite c ⊕ (decorators_count e d ⊕ (h.behind ⊕ one)))) (definition_count profile head es body))
+    (many (h.before ⊕ (p z zs h.suite c ⊕ (decorators_count e d ⊕ (h.following ⊕ one)))) (definition_count profile head es body))
 
 decorated_counted : {profile : Profile} {l : ℕ} {suite : Option (List Stmt)} {ds xs : List Line} {es : List Expr} {body : List Stmt}
     (head : DefHead) (e : B.Decorators l ds es) (b : B.Body l suite xs body)
@@ -140,8 +140,8 @@ decorated_counted : {profile : Profile} {l : ℕ} {suite : Option (List Stmt)} {
 decorated_counted {l = l} {suite = suite} {ds = ds} {xs = xs} head e b p [] c =
     let x = line l (header_form (def_header head) suite) in absurd (omega (arith, one_each c, length-append ds (x ∷ xs)))
 decorated_counted {l = l} {suite = suite} {ds = ds} {xs = xs} head e b p (z ∷ zs) c =
-    let behind = line l (header_form (def_header head) suite) ∷ xs in
-    definition_counted head b p (front ds behind c) e (back ds behind c)
+    let following = line l (header_form (def_header head) suite) ∷ xs in
+    definition_counted head b p (front ds following c) e (back ds following c)
 
 -- ---- All of them.
 
@@ -163,13 +163,13 @@ mutual
   count_statement {profile} (B.with_statement {is_async = is_async} {items = items} {body = body} b) (a_line {z = z} h c) =
       many (h.before ⊕ (count_body b z _ h.suite c ⊕ one)) (with_count profile is_async items body)
   count_statement {l = l} (B.try_finally {last = last} {xs = xs} {ys = ys} b f) (a_line {z = z} h c) =
-      let behind = line l (header_form finally_header last) ∷ ys in
-      many (count_body b z _ h.suite (front xs behind c) ⊕ (count_final (back xs behind c) f ⊕ one)) (omega arith)
+      let following = line l (header_form finally_header last) ∷ ys in
+      many (count_body b z _ h.suite (front xs following c) ⊕ (count_final (back xs following c) f ⊕ one)) (omega arith)
   count_statement {profile} (B.try_except {star = star} {xs = xs} {ys = ys} {zs = others} {ws = ws} {body = body} {orelse = orelse} {final =
       final} {h = first} {hs = hs} b e o f) (a_line {z = z} h c) =
-      let behind = back xs (ys ++ (others ++ ws)) c in
-      let last = back ys (others ++ ws) behind in
-      many (count_body b z _ h.suite (front xs (ys ++ (others ++ ws)) c) ⊕ (count_handlers e (front ys (others ++ ws) behind) ⊕
+      let following = back xs (ys ++ (others ++ ws)) c in
+      let last = back ys (others ++ ws) following in
+      many (count_body b z _ h.suite (front xs (ys ++ (others ++ ws)) c) ⊕ (count_handlers e (front ys (others ++ ws) following) ⊕
       (count_otherwise o (front others ws last) ⊕ (count_ending f (back others ws last) ⊕ one))))
       (try_count profile star body orelse final (first ∷ hs))
   count_statement {zs = zs} (B.definition_of head e b) c = decorated_counted head e b (λ z zs s c. count_body b z zs s c) zs c
@@ -232,7 +232,7 @@ count_formed spans (formed_line {x = x} h r) =
     let k = count_form h.is in
     a_line (record {
       before = span_count (spans x) k.before;
-      behind = span_count (spans x) k.behind;
+      following = span_count (spans x) k.following;
       suite = span_count (spans x) k.suite;
     }) (count_formed spans r)
 

@@ -126,7 +126,7 @@ called_count f e es h =
 
 -- ---- Parameters.
 
--- each default stands before the star or behind it
+-- each default stands before the star or after it
 defaults_split : (ps : List EntryPlaces) → length (E.keyword_defaults ps) + length (E.defaults ps) ≡ length (E.all_defaults ps)
 defaults_split [] = refl
 defaults_split (E.Single qs ∷ ps) = defaults_split ps

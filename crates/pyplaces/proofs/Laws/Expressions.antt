@@ -32,8 +32,8 @@ slice_count : (a b c : OptionalExpr)
     → marked (shown (Trees.Slice a b c)) ≡ 1 + (marked_optional a + (marked_optional b + marked_optional c))
 slice_count a b c =
     let last : Fields = optional_field (codes "step") c no_field in
-    let behind : Fields = optional_field (codes "upper") b last in
-    let a1 = optional_sum (codes "lower") a behind in
+    let following : Fields = optional_field (codes "upper") b last in
+    let a1 = optional_sum (codes "lower") a following in
     let b1 = optional_sum (codes "upper") b last in
     let c1 = optional_sum (codes "step") c no_field in omega (arith, a1, b1, c1)
 

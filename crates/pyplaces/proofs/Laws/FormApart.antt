@@ -15,7 +15,7 @@ use Rattle.pyplaces.specs.EntryPlaces as E
 use Rattle.pyplaces.specs.Stretches.{Stretch}
 use Rattle.pyplaces.specs.ExpressionPlaces.{listing_places, target_places, single_target_places, del_target_places}
 use Rattle.pyplaces.specs.ExpressionPlaces.{item_target_places}
-use Rattle.pyplaces.specs.FormPlaces.{commas_places, ended_places, perhaps_places, behind_places, type_param_places, type_params_places}
+use Rattle.pyplaces.specs.FormPlaces.{commas_places, ended_places, perhaps_places, after_places, type_param_places, type_params_places}
 use Rattle.pyplaces.specs.FormPlaces.{dotted_alias_places, name_alias_places, names_places, targets_places, field_places, simple_places}
 use Rattle.pyplaces.specs.FormPlaces.{simples_places, item_places, items_places, bases_places, FormPlaces, header_places, case_places}
 use Rattle.pyplaces.specs.FormPlaces.{line_places, places_at}
@@ -47,14 +47,14 @@ laminar_perhaps : {l : Level} {ts : List Terminal} {e : Option Expr} (at : ℕ) 
 laminar_perhaps at F.left_out = nothing (omega arith)
 laminar_perhaps at (F.given p) = laminar at p
 
-laminar_behind : {t : Terminal} {l : Level} {ts : List Terminal} {e : Option Expr} (at : ℕ) (d : F.Behind t l ts e)
-    → Laminar at (at + length ts) (behind_places at d)
-laminar_behind at F.none_behind = nothing (omega arith)
-laminar_behind at (F.behind p) = wide (laminar (1 + at) p) (omega arith) (omega arith)
+laminar_after : {t : Terminal} {l : Level} {ts : List Terminal} {e : Option Expr} (at : ℕ) (d : F.Following t l ts e)
+    → Laminar at (at + length ts) (after_places at d)
+laminar_after at F.none_after = nothing (omega arith)
+laminar_after at (F.following p) = wide (laminar (1 + at) p) (omega arith) (omega arith)
 
 laminar_type_param : {ts : List Terminal} {p : TypeParam} (at : ℕ) (d : F.TypeParamOf ts p)
     → Laminar at (at + length ts) (type_param_places at d)
-laminar_type_param at (F.type_var b) = root (laminar_behind (1 + at) b) (omega arith) (omega arith) (omega arith)
+laminar_type_param at (F.type_var b) = root (laminar_after (1 + at) b) (omega arith) (omega arith) (omega arith)
     (omega arith) (omega arith)
 laminar_type_param at F.type_var_tuple = root0 (omega arith) (omega arith) (omega arith)
 laminar_type_param at F.param_spec = root0 (omega arith) (omega arith) (omega arith)
@@ -114,24 +114,24 @@ laminar_fields at (F.augmented_assign {ts = ts} x t f p) =
     wide (seq (laminar_single_target at t) (laminar (1 + (at + length ts)) p) (omega arith)) (omega arith)
     (simp length-append (omega arith))
 laminar_fields at (F.annotated_name {ts = ts} p v) =
-    wide (seq (one_token at) (seq (laminar (2 + at) p) (laminar_behind (2 + (at + length ts)) v) (omega arith)) (omega arith)) (omega arith)
+    wide (seq (one_token at) (seq (laminar (2 + at) p) (laminar_after (2 + (at + length ts)) v) (omega arith)) (omega arith)) (omega arith)
     (simp length-append (omega arith))
 laminar_fields at (F.annotated_group {ts = ts} {us = us} t p v) =
     wide (seq (laminar_single_target (1 + at) t)
-    (seq (laminar (3 + (at + length ts)) p) (laminar_behind (3 + (at + (length ts + length us))) v) (omega arith)) (omega arith))
+    (seq (laminar (3 + (at + length ts)) p) (laminar_after (3 + (at + (length ts + length us))) v) (omega arith)) (omega arith))
     (omega arith) (simp length-append (omega arith))
 laminar_fields at (F.annotated_part {ts = ts} {us = us} t f p v) =
     wide (seq (laminar_single_target at t)
-    (seq (laminar (1 + (at + length ts)) p) (laminar_behind (1 + (at + (length ts + length us))) v) (omega arith)) (omega arith))
+    (seq (laminar (1 + (at + length ts)) p) (laminar_after (1 + (at + (length ts + length us))) v) (omega arith)) (omega arith))
     (omega arith) (simp length-append (omega arith))
 laminar_fields at (F.type_alias {ts = ts} f c p) =
     wide (seq (one_token (1 + at)) (seq (laminar_type_params (2 + at) c) (laminar (3 + (at + length ts)) p) (omega arith)) (omega arith))
     (omega arith) (simp length-append (omega arith))
 laminar_fields at (F.return_of p) = wide (laminar_perhaps (1 + at) p) (omega arith) (omega arith)
 laminar_fields at F.raise_alone = nothing (omega arith)
-laminar_fields at (F.raise_of {ts = ts} p c) = wide (seq (laminar (1 + at) p) (laminar_behind (1 + (at + length ts)) c) (omega arith))
+laminar_fields at (F.raise_of {ts = ts} p c) = wide (seq (laminar (1 + at) p) (laminar_after (1 + (at + length ts)) c) (omega arith))
     (omega arith) (simp length-append (omega arith))
-laminar_fields at (F.assert_of {ts = ts} p c) = wide (seq (laminar (1 + at) p) (laminar_behind (1 + (at + length ts)) c) (omega arith))
+laminar_fields at (F.assert_of {ts = ts} p c) = wide (seq (laminar (1 + at) p) (laminar_after (1 + (at + length ts)) c) (omega arith))
     (omega arith) (simp length-append (omega arith))
 laminar_fields at (F.delete c) =
     wide (ended_laminar Expr G.DelTarget (λ ts a. del_target_places) (λ ts a at d. laminar_del_target at d) (1 + at) c)
@@ -181,14 +181,14 @@ laminar_bases at F.no_bases = nothing (omega arith)
 laminar_bases at (F.bases c f) = wide (arguments_laminar (listing_places (1 + at) c) (laminar_listing (1 + at) c)) (omega arith)
     (simp length-append (omega arith))
 
--- the places of a header, those before the body and those behind it
+-- the places of a header, those before the body and those after it
 abbrev head_of : FormPlaces → List Stretch
-head_of p = p.before ++ p.behind
+head_of p = p.before ++ p.following
 
 alone : {lo hi : ℕ} {ps : List Stretch} → Laminar lo hi ps → Laminar lo hi (ps ++ [])
 alone {ps = ps} l = as_list (sym (append-nil ps)) l
 
--- of a `def` the type parameters stand before the parameters, and the returns behind
+-- of a `def` the type parameters stand before the parameters, and the returns after
 around : {lo hi : ℕ} (ps qs rs : List Stretch) → Laminar lo hi (rs ++ (ps ++ qs)) → Laminar lo hi (ps ++ (qs ++ rs))
 around ps qs rs l = among (rs ++ (ps ++ qs)) (ps ++ (qs ++ rs)) (λ s c. turn s (in_both ps (qs ++ rs) c)) l
   where
@@ -225,11 +225,11 @@ laminar_header at (F.except_line p a) = alone (wide (laminar (1 + at) p) (omega 
 laminar_header at (F.except_star p a) = alone (wide (laminar (2 + at) p) (omega arith) (simp length-append (omega arith)))
 laminar_header at (F.def_line {ts = ts} {us = us} {vs = vs} x a c ps f r) =
     around (E.arranged (listing_places (3 + (at + (length ts + length us))) ps))
-    (behind_places (4 + (at + (length ts + (length us + length vs)))) r) (type_params_places (2 + (at + length ts)) c)
+    (after_places (4 + (at + (length ts + (length us + length vs)))) r) (type_params_places (2 + (at + length ts)) c)
     (wide (seq (laminar_type_params (2 + (at + length ts)) c)
     (seq (arranged_laminar (listing_places (3 + (at + (length ts + length us))) ps)
     (laminar_listing (3 + (at + (length ts + length us))) ps))
-    (laminar_behind (4 + (at + (length ts + (length us + length vs)))) r) (omega arith)) (omega arith)) (omega arith)
+    (laminar_after (4 + (at + (length ts + (length us + length vs)))) r) (omega arith)) (omega arith)) (omega arith)
     (simp length-append (omega arith)))
 laminar_header at (F.class_line {ts = ts} c b) =
     turned (bases_places (2 + (at + length ts)) b) (type_params_places (2 + at) c)
@@ -238,14 +238,14 @@ laminar_header at (F.class_line {ts = ts} c b) =
 
 laminar_case : {ts : List Terminal} {h : Header} (at : ℕ) (d : F.CaseOf ts h) → Laminar at (at + length ts) (head_of (case_places at d))
 laminar_case at (F.case_line {ts = ts} form p q) =
-    alone (wide (seq (laminar_pattern (1 + at) p) (laminar_behind (1 + (at + length ts)) q) (omega arith)) (omega arith)
+    alone (wide (seq (laminar_pattern (1 + at) p) (laminar_after (1 + (at + length ts)) q) (omega arith)) (omega arith)
     (simp length-append (omega arith)))
 
 -- ---- Lines.
 
 -- all places of a line
 abbrev pub all_of : FormPlaces → List Stretch
-all_of p = (p.before ++ p.behind) ++ p.suite
+all_of p = (p.before ++ p.following) ++ p.suite
 
 -- a header alone has no statements in its line
 no_suite : {profile : Profile} {ts : List Terminal} {x : Header} {lo hi : ℕ} (h : F.HeaderOf profile ts x)

@@ -12,7 +12,7 @@ use Rattle.pygrammar.specs.Grammar as G
 use Rattle.pygrammar.specs.Forms as F
 use Rattle.pyplaces.specs.Stretches.{Stretch}
 use Rattle.pyplaces.specs.ExpressionPlaces.{target_places, single_target_places, del_target_places, item_target_places}
-use Rattle.pyplaces.specs.FormPlaces.{commas_places, ended_places, perhaps_places, behind_places, type_param_places, type_params_places}
+use Rattle.pyplaces.specs.FormPlaces.{commas_places, ended_places, perhaps_places, after_places, type_param_places, type_params_places}
 use Rattle.pyplaces.specs.FormPlaces.{dotted_alias_places, name_alias_places, names_places, targets_places, field_places, simple_places}
 use Rattle.pyplaces.specs.FormPlaces.{simples_places, item_places, items_places, bases_places, FormPlaces, header_places, case_places}
 use Rattle.pyplaces.specs.FormPlaces.{line_places, places_at}
@@ -44,14 +44,14 @@ tokens_perhaps : {lo hi : ℕ} {l : Level} {ts : List Terminal} {e : Option Expr
 tokens_perhaps at F.left_out g h = none
 tokens_perhaps at (F.given p) g h = tokens at p g h
 
-tokens_behind : {lo hi : ℕ} {t : Terminal} {l : Level} {ts : List Terminal} {e : Option Expr} (at : ℕ) (d : F.Behind t l ts e) → lo ≤ at
-    → at + length ts ≤ hi → Within lo hi (behind_places at d)
-tokens_behind at F.none_behind g h = none
-tokens_behind at (F.behind p) g h = tokens (1 + at) p (omega arith) (omega arith)
+tokens_after : {lo hi : ℕ} {t : Terminal} {l : Level} {ts : List Terminal} {e : Option Expr} (at : ℕ) (d : F.Following t l ts e) → lo ≤ at
+    → at + length ts ≤ hi → Within lo hi (after_places at d)
+tokens_after at F.none_after g h = none
+tokens_after at (F.following p) g h = tokens (1 + at) p (omega arith) (omega arith)
 
 tokens_type_param : {lo hi : ℕ} {ts : List Terminal} {p : TypeParam} (at : ℕ) (d : F.TypeParamOf ts p) → lo ≤ at → at + length ts ≤ hi
     → Within lo hi (type_param_places at d)
-tokens_type_param at (F.type_var b) g h = tokens_behind (1 + at) b (omega arith) (omega arith) ⊕ own (omega arith)
+tokens_type_param at (F.type_var b) g h = tokens_after (1 + at) b (omega arith) (omega arith) ⊕ own (omega arith)
     (omega arith) (omega arith)
 tokens_type_param at F.type_var_tuple g h = own (omega arith) (omega arith) (omega arith)
 tokens_type_param at F.param_spec g h = own (omega arith) (omega arith) (omega arith)
@@ -147,15 +147,15 @@ tokens_fields at (F.assign {ts = ts} t p) g h = let k = simp length-append at h 
 tokens_fields at (F.augmented_assign {ts = ts} x t f p) g h = let k = simp length-append at h in
     tokens_single_target at t (omega arith) (omega arith) ⊕ tokens (1 + (at + length ts)) p (omega arith) (omega arith)
 tokens_fields at (F.annotated_name {ts = ts} p v) g h = let k = simp length-append at h in
-    own (omega arith) (omega arith) (omega arith) ⊕ (tokens (2 + at) p (omega arith) (omega arith) ⊕ tokens_behind (2 + (at + length ts)) v
+    own (omega arith) (omega arith) (omega arith) ⊕ (tokens (2 + at) p (omega arith) (omega arith) ⊕ tokens_after (2 + (at + length ts)) v
     (omega arith) (omega arith))
 tokens_fields at (F.annotated_group {ts = ts} {us = us} t p v) g h =
     let k = simp length-append at h in tokens_single_target (1 + at) t (omega arith) (omega arith) ⊕
-    (tokens (3 + (at + length ts)) p (omega arith) (omega arith) ⊕ tokens_behind (3 + (at + (length ts + length us))) v
+    (tokens (3 + (at + length ts)) p (omega arith) (omega arith) ⊕ tokens_after (3 + (at + (length ts + length us))) v
     (omega arith) (omega arith))
 tokens_fields at (F.annotated_part {ts = ts} {us = us} t f p v) g h =
     let k = simp length-append at h in tokens_single_target at t (omega arith) (omega arith) ⊕
-    (tokens (1 + (at + length ts)) p (omega arith) (omega arith) ⊕ tokens_behind (1 + (at + (length ts + length us))) v
+    (tokens (1 + (at + length ts)) p (omega arith) (omega arith) ⊕ tokens_after (1 + (at + (length ts + length us))) v
     (omega arith) (omega arith))
 tokens_fields at (F.type_alias {ts = ts} f c p) g h =
     let k = simp length-append at h in
@@ -164,9 +164,9 @@ tokens_fields at (F.type_alias {ts = ts} f c p) g h =
 tokens_fields at (F.return_of p) g h = tokens_perhaps (1 + at) p (omega arith) (omega arith)
 tokens_fields at F.raise_alone g h = none
 tokens_fields at (F.raise_of {ts = ts} p c) g h = let k = simp length-append at h in
-    tokens (1 + at) p (omega arith) (omega arith) ⊕ tokens_behind (1 + (at + length ts)) c (omega arith) (omega arith)
+    tokens (1 + at) p (omega arith) (omega arith) ⊕ tokens_after (1 + (at + length ts)) c (omega arith) (omega arith)
 tokens_fields at (F.assert_of {ts = ts} p c) g h = let k = simp length-append at h in
-    tokens (1 + at) p (omega arith) (omega arith) ⊕ tokens_behind (1 + (at + length ts)) c (omega arith) (omega arith)
+    tokens (1 + at) p (omega arith) (omega arith) ⊕ tokens_after (1 + (at + length ts)) c (omega arith) (omega arith)
 tokens_fields at (F.delete c) g h =
     ended_tokens Expr G.DelTarget (λ ts a. del_target_places) (λ ts a at d. tokens_del_target at d) (1 + at) c (omega arith) (omega arith)
 tokens_fields at (F.global c) g h = none
@@ -217,11 +217,11 @@ tokens_bases at (F.bases c f) g h = let k = simp length-append at h in let es = 
 -- the runs of a line
 pub record RunsWithin (lo hi : ℕ) (p : FormPlaces) : Type 0 where
   pub before : Within lo hi p.before
-  pub behind : Within lo hi p.behind
+  pub following : Within lo hi p.following
   pub suite : Within lo hi p.suite
 
-runs : {lo hi : ℕ} {p : FormPlaces} → Within lo hi p.before → Within lo hi p.behind → Within lo hi p.suite → RunsWithin lo hi p
-runs b e s = record { before = b; behind = e; suite = s }
+runs : {lo hi : ℕ} {p : FormPlaces} → Within lo hi p.before → Within lo hi p.following → Within lo hi p.suite → RunsWithin lo hi p
+runs b e s = record { before = b; following = e; suite = s }
 
 tokens_header : {lo hi : ℕ} {profile : Profile} {ts : List Terminal} {x : Header} (at : ℕ) (d : F.HeaderOf profile ts x) → lo ≤ at
     → at + length ts ≤ hi → RunsWithin lo hi (header_places at d)
@@ -243,7 +243,7 @@ tokens_header at (F.except_star p a) g h = let k = simp length-append at h in ru
 tokens_header at (F.def_line {ts = ts} {us = us} {vs = vs} x a c ps f r) g h =
     let k = simp length-append at h in
     runs (arranged_within (tokens_listing (3 + (at + (length ts + length us))) ps (omega arith) (omega arith)))
-    (tokens_behind (4 + (at + (length ts + (length us + length vs)))) r (omega arith) (omega arith) ⊕ tokens_type_params
+    (tokens_after (4 + (at + (length ts + (length us + length vs)))) r (omega arith) (omega arith) ⊕ tokens_type_params
     (2 + (at + length ts)) c (omega arith) (omega arith)) none
 tokens_header at (F.class_line {ts = ts} c b) g h =
     let k = simp length-append at h in runs (tokens_bases (2 + (at + length ts)) b (omega arith) (omega arith))
@@ -252,7 +252,7 @@ tokens_header at (F.class_line {ts = ts} c b) g h =
 tokens_case : {lo hi : ℕ} {ts : List Terminal} {x : Header} (at : ℕ) (d : F.CaseOf ts x) → lo ≤ at → at + length ts ≤ hi
     → RunsWithin lo hi (case_places at d)
 tokens_case at (F.case_line {ts = ts} form p q) g h =
-    let k = simp length-append at h in runs (tokens_pattern (1 + at) p (omega arith) (omega arith) ⊕ tokens_behind (1 + (at + length ts)) q
+    let k = simp length-append at h in runs (tokens_pattern (1 + at) p (omega arith) (omega arith) ⊕ tokens_after (1 + (at + length ts)) q
     (omega arith) (omega arith)) none none
 
 -- ---- Lines.
@@ -264,7 +264,7 @@ tokens_line (F.header_line {ts = ts} h) = let k = length-append ts (Op Sign.Colo
 tokens_line (F.header_suite {ts = ts} {us = us} h c) =
     let k = length-append ts (Op Sign.Colon ∷ us) in
     let r = tokens_header 0 h (omega arith) (omega arith) in
-    runs r.before r.behind (tokens_simples (1 + length ts) c (omega arith) (omega arith))
+    runs r.before r.following (tokens_simples (1 + length ts) c (omega arith) (omega arith))
 tokens_line (F.match_line {ts = ts} form h p) = let k = length-append ts (Op Sign.Colon ∷ []) in
     runs (tokens 1 p (omega arith) (omega arith)) none none
 
@@ -274,4 +274,4 @@ tokens_form (F.other_line h f) = tokens_line f
 tokens_form (F.case_alone {ts = ts} h c) = let k = length-append ts (Op Sign.Colon ∷ []) in tokens_case 0 c (omega arith) (omega arith)
 tokens_form (F.case_suite {ts = ts} {us = us} h c s) =
     let k = length-append ts (Op Sign.Colon ∷ us) in let r = tokens_case 0 c (omega arith) (omega arith) in
-    runs r.before r.behind (tokens_simples (1 + length ts) s (omega arith) (omega arith))
+    runs r.before r.following (tokens_simples (1 + length ts) s (omega arith) (omega arith))

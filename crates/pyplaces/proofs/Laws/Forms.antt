@@ -25,7 +25,7 @@ use Rattle.pygrammar.specs.Grammar as G
 use Rattle.pygrammar.specs.Forms as F
 use Rattle.pyplaces.specs.Stretches.{Stretch}
 use Rattle.pyplaces.specs.ExpressionPlaces.{target_places, single_target_places, del_target_places, item_target_places}
-use Rattle.pyplaces.specs.FormPlaces.{commas_places, ended_places, perhaps_places, behind_places, type_param_places, type_params_places}
+use Rattle.pyplaces.specs.FormPlaces.{commas_places, ended_places, perhaps_places, after_places, type_param_places, type_params_places}
 use Rattle.pyplaces.specs.FormPlaces.{dotted_alias_places, name_alias_places, names_places, targets_places, field_places, simple_places}
 use Rattle.pyplaces.specs.FormPlaces.{simples_places, item_places, items_places, bases_places, FormPlaces, header_places, case_places}
 use Rattle.pyplaces.specs.FormPlaces.{line_places, places_at}
@@ -59,15 +59,15 @@ count_perhaps : {l : Level} {ts : List Terminal} {e : Option Expr} (at : ℕ) (d
 count_perhaps at F.left_out = none
 count_perhaps at (F.given p) = count_expr at p
 
-count_behind : {t : Terminal} {l : Level} {ts : List Terminal} {e : Option Expr} (at : ℕ) (d : F.Behind t l ts e)
-    → Many (behind_places at d) (marked_option e)
-count_behind at F.none_behind = none
-count_behind at (F.behind p) = count_expr (1 + at) p
+count_after : {t : Terminal} {l : Level} {ts : List Terminal} {e : Option Expr} (at : ℕ) (d : F.Following t l ts e)
+    → Many (after_places at d) (marked_option e)
+count_after at F.none_after = none
+count_after at (F.following p) = count_expr (1 + at) p
 
 count_type_param : {ts : List Terminal} {p : TypeParam} (at : ℕ) (d : F.TypeParamOf ts p)
     → Many (type_param_places at d) (marked (shown_type_param p))
 count_type_param at (F.type_var {bound = bound} b) =
-    many (count_behind (1 + at) b ⊕ one) (omega (arith, option_sum (codes "bound") bound no_field))
+    many (count_after (1 + at) b ⊕ one) (omega (arith, option_sum (codes "bound") bound no_field))
 count_type_param at F.type_var_tuple = many one (omega arith)
 count_type_param at F.param_spec = many one (omega arith)
 
@@ -143,23 +143,23 @@ simple_count own at (F.assign {ts = ts} t p) = many ((count_targets at t ⊕ cou
 simple_count own at (F.augmented_assign {ts = ts} x {o = o} t h p) =
     many ((count_single_target at t ⊕ count_expr (1 + (at + length ts)) p) ⊕ one) (omega (arith, operator_none o))
 simple_count own at (F.annotated_name {ts = ts} {v = v} p w) =
-    many ((one ⊕ (count_expr (2 + at) p ⊕ count_behind (2 + (at + length ts)) w)) ⊕ one)
+    many ((one ⊕ (count_expr (2 + at) p ⊕ count_after (2 + (at + length ts)) w)) ⊕ one)
     (omega (arith, option_sum (codes "value") v (a_field (codes "simple") (shown_flag true) no_field)))
 simple_count own at (F.annotated_group {ts = ts} {us = us} {v = v} t p w) =
-    many ((count_single_target (1 + at) t ⊕ (count_expr (3 + (at + length ts)) p ⊕ count_behind (3 + (at + (length ts + length us))) w)) ⊕
+    many ((count_single_target (1 + at) t ⊕ (count_expr (3 + (at + length ts)) p ⊕ count_after (3 + (at + (length ts + length us))) w)) ⊕
     one)
     (omega (arith, option_sum (codes "value") v (a_field (codes "simple") (shown_flag false) no_field)))
 simple_count own at (F.annotated_part {ts = ts} {us = us} {v = v} t h p w) =
-    many ((count_single_target at t ⊕ (count_expr (1 + (at + length ts)) p ⊕ count_behind (1 + (at + (length ts + length us))) w)) ⊕ one)
+    many ((count_single_target at t ⊕ (count_expr (1 + (at + length ts)) p ⊕ count_after (1 + (at + (length ts + length us))) w)) ⊕ one)
     (omega (arith, option_sum (codes "value") v (a_field (codes "simple") (shown_flag false) no_field)))
 simple_count own at (F.type_alias {ts = ts} h c p) =
     many ((one ⊕ (count_type_params (2 + at) c ⊕ count_expr (3 + (at + length ts)) p)) ⊕ one) (omega arith)
 simple_count own at (F.return_of {e = e} p) = many (count_perhaps (1 + at) p ⊕ one) (omega (arith, option_sum (codes "value") e no_field))
 simple_count own at F.raise_alone = many one (omega arith)
 simple_count own at (F.raise_of {ts = ts} {c = cause} p c) =
-    many ((count_expr (1 + at) p ⊕ count_behind (1 + (at + length ts)) c) ⊕ one) (omega (arith, option_sum (codes "cause") cause no_field))
+    many ((count_expr (1 + at) p ⊕ count_after (1 + (at + length ts)) c) ⊕ one) (omega (arith, option_sum (codes "cause") cause no_field))
 simple_count own at (F.assert_of {ts = ts} {m = m} p c) =
-    many ((count_expr (1 + at) p ⊕ count_behind (1 + (at + length ts)) c) ⊕ one) (omega (arith, option_sum (codes "msg") m no_field))
+    many ((count_expr (1 + at) p ⊕ count_after (1 + (at + length ts)) c) ⊕ one) (omega (arith, option_sum (codes "msg") m no_field))
 simple_count own at (F.delete c) =
     many (count_ended Expr G.DelTarget (λ ts a. del_target_places) (λ e. marked (shown e)) (λ es. marked_rows (shown_exprs (exprs es))) refl
     (λ e es. refl) (λ ts a at d. count_del_target at d) (1 + at) c ⊕ one) (omega arith)
@@ -187,7 +187,7 @@ count_simples at (F.more_simples {ts = ts} p c) = count_simple at p ⊕ count_si
 
 -- ---- Headers.
 
--- in a header's parts before the body of its statement, and in those behind it
+-- in a header's parts before the body of its statement, and in those after it
 abbrev pub before_count : Header → ℕ
 before_count (if_header e) = marked (shown e)
 before_count (elif_header e) = marked (shown e)
@@ -203,10 +203,10 @@ before_count (def_header (class_head x ps es ks)) = marked_rows (shown_exprs (ex
 before_count (match_header e) = marked (shown e)
 before_count (case_header p g) = marked (shown_pattern p) + marked_option g
 
-abbrev pub behind_count : Profile → Header → ℕ
-behind_count profile (def_header (function_head is_async x ps a r)) = marked_option r + marked_fields (type_params_field profile ps)
-behind_count profile (def_header (class_head x ps es ks)) = marked_fields (type_params_field profile ps)
-behind_count profile _ = 0
+abbrev pub after_count : Profile → Header → ℕ
+after_count profile (def_header (function_head is_async x ps a r)) = marked_option r + marked_fields (type_params_field profile ps)
+after_count profile (def_header (class_head x ps es ks)) = marked_fields (type_params_field profile ps)
+after_count profile _ = 0
 
 count_item : {ts : List Terminal} {i : Item} (at : ℕ) (d : F.ItemOf ts i) → Many (item_places at d) (marked (shown_item i))
 count_item at (F.bare_item p) = many (count_expr at p) (omega arith)
@@ -236,11 +236,11 @@ count_bases at (F.bases {es = es} c h) =
 -- the runs of a header
 pub record HeaderCounted (profile : Profile) (h : Header) (p : FormPlaces) : Type 0 where
   pub before : Many p.before (before_count h)
-  pub behind : Many p.behind (behind_count profile h)
+  pub following : Many p.following (after_count profile h)
 
-header_counted : {profile : Profile} {h : Header} {p : FormPlaces} → Many p.before (before_count h) → Many p.behind (behind_count profile h)
+header_counted : {profile : Profile} {h : Header} {p : FormPlaces} → Many p.before (before_count h) → Many p.following (after_count profile h)
     → HeaderCounted profile h p
-header_counted b e = record { before = b; behind = e }
+header_counted b e = record { before = b; following = e }
 
 count_header : {profile : Profile} {ts : List Terminal} {h : Header} (at : ℕ) (d : F.HeaderOf profile ts h)
     → HeaderCounted profile h (header_places at d)
@@ -258,13 +258,13 @@ count_header at (F.except_line p a) = header_counted (count_expr (1 + at) p) non
 count_header at (F.except_star p a) = header_counted (count_expr (2 + at) p) none
 count_header at (F.def_line {ts = ts} {us = us} {vs = vs} x a c ps h r) =
     header_counted (arguments_count (count_listing (3 + (at + (length ts + length us))) ps) h)
-    (count_behind (4 + (at + (length ts + (length us + length vs)))) r ⊕ many (count_type_params (2 + (at + length ts)) c)
+    (count_after (4 + (at + (length ts + (length us + length vs)))) r ⊕ many (count_type_params (2 + (at + length ts)) c)
     (sym (params_field c)))
 count_header at (F.class_line {ts = ts} c b) =
     header_counted (count_bases (2 + (at + length ts)) b) (many (count_type_params (2 + at) c) (sym (params_field c)))
 
 count_case : {profile : Profile} {ts : List Terminal} {h : Header} (at : ℕ) (d : F.CaseOf ts h) → HeaderCounted profile h (case_places at d)
-count_case at (F.case_line {ts = ts} form p g) = header_counted (count_pattern (1 + at) p ⊕ count_behind (1 + (at + length ts)) g) none
+count_case at (F.case_line {ts = ts} form p g) = header_counted (count_pattern (1 + at) p ⊕ count_after (1 + (at + length ts)) g) none
 
 -- ---- Lines.
 
@@ -278,10 +278,10 @@ line_before (simple_form ss) = 0
 line_before (decorator_form e) = marked (shown e)
 line_before (header_form h suite) = before_count h
 
-abbrev pub line_behind : Profile → Form → ℕ
-line_behind profile (simple_form ss) = 0
-line_behind profile (decorator_form e) = 0
-line_behind profile (header_form h suite) = behind_count profile h
+abbrev pub line_following : Profile → Form → ℕ
+line_following profile (simple_form ss) = 0
+line_following profile (decorator_form e) = 0
+line_following profile (header_form h suite) = after_count profile h
 
 abbrev pub line_suite : Profile → Form → ℕ
 line_suite profile (simple_form ss) = marked_rows (shown_stmts profile (stmts ss))
@@ -290,12 +290,12 @@ line_suite profile (header_form h suite) = suite_count profile suite
 
 pub record FormCounted (profile : Profile) (f : Form) (p : FormPlaces) : Type 0 where
   pub before : Many p.before (line_before f)
-  pub behind : Many p.behind (line_behind profile f)
+  pub following : Many p.following (line_following profile f)
   pub suite : Many p.suite (line_suite profile f)
 
-form_counted : {profile : Profile} {f : Form} {p : FormPlaces} → Many p.before (line_before f) → Many p.behind (line_behind profile f)
+form_counted : {profile : Profile} {f : Form} {p : FormPlaces} → Many p.before (line_before f) → Many p.following (line_following profile f)
     → Many p.suite (line_suite profile f) → FormCounted profile f p
-form_counted b e s = record { before = b; behind = e; suite = s }
+form_counted b e s = record { before = b; following = e; suite = s }
 
 -- a header alone has no statements in its line
 alone_suite : {profile : Profile} {ts : List Terminal} {h : Header} (at : ℕ) (d : F.HeaderOf profile ts h)
@@ -320,14 +320,14 @@ case_suite at (F.case_line form p g) = none
 count_line : {profile : Profile} {ts : List Terminal} {f : Form} (d : F.FormOf profile ts f) → FormCounted profile f (line_places d)
 count_line (F.simple_statements c) = form_counted none none (count_simples 0 c)
 count_line (F.decorator_line p) = form_counted (count_expr 1 p) none none
-count_line (F.header_line h) = let k = count_header 0 h in form_counted k.before k.behind (alone_suite 0 h)
-count_line (F.header_suite {ts = ts} h c) = let k = count_header 0 h in form_counted k.before k.behind (count_simples (1 + length ts) c)
+count_line (F.header_line h) = let k = count_header 0 h in form_counted k.before k.following (alone_suite 0 h)
+count_line (F.header_suite {ts = ts} h c) = let k = count_header 0 h in form_counted k.before k.following (count_simples (1 + length ts) c)
 count_line (F.match_line form h p) = form_counted (count_expr 1 p) none none
 
 pub count_form : {profile : Profile} {inside : Bool} {ts : List Terminal} {f : Form} (d : F.FormAt profile inside ts f)
     → FormCounted profile f (places_at d)
 count_form (F.other_line h f) = count_line f
 count_form {profile} (F.case_alone h c) =
-    let k = count_case {profile = profile} 0 c in form_counted k.before k.behind (case_suite 0 c)
+    let k = count_case {profile = profile} 0 c in form_counted k.before k.following (case_suite 0 c)
 count_form {profile} (F.case_suite {ts = ts} h c s) =
-    let k = count_case {profile = profile} 0 c in form_counted k.before k.behind (count_simples (1 + length ts) s)
+    let k = count_case {profile = profile} 0 c in form_counted k.before k.following (count_simples (1 + length ts) s)

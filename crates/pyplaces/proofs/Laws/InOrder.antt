@@ -67,7 +67,7 @@ length_drop ps zero k h = omega (arith, h)
 length_drop [] (suc n) k h = absurd (omega (arith, h))
 length_drop (p ∷ ps) (suc n) k h = length_drop ps n k (omega (arith, h))
 
--- those of some statements and of others behind them
+-- those of some statements and of others after them
 spans_both : (profile : Profile) (ss more : List Stmt) (ps qs : List Span) → length ps ≡ rows profile ss
     → statement_spans profile (ss ++ more) (ps ++ qs) ≡ statement_spans profile ss ps ++ statement_spans profile more qs
 spans_both profile [] more [] qs h = refl
@@ -139,8 +139,8 @@ decorated : {profile : Profile} {lo hi l : ℕ} {suite : Option (List Stmt)} {ds
 decorated {l = l} {suite = suite} {ds = ds} {xs = xs} head e b [] c o n =
     let x = line l (header_form (def_header head) suite) in absurd (omega (arith, counted.one_each c, length-append ds (x ∷ xs)))
 decorated {profile} {lo} {hi} {l} {suite} {ds} {xs} {es} {body} head e b (z ∷ zs) c o n =
-    let behind = line l (header_form (def_header head) suite) ∷ xs in
-    let r = split ds behind o in defined head b (take (length ds) (z ∷ zs)) r.first r.others n
+    let following = line l (header_form (def_header head) suite) ∷ xs in
+    let r = split ds following o in defined head b (take (length ds) (z ∷ zs)) r.first r.others n
   where
     lower : {lo mid : ℕ} {ds : List Line} {dz : List LinePlaces} → LinesInOrder profile lo ds dz mid → lo ≤ mid
     lower (no_line h) = h
@@ -155,7 +155,7 @@ decorated {profile} {lo} {hi} {l} {suite} {ds} {xs} {es} {body} head e b (z ∷ 
         order_wide mid hi lo hi (statement_spans profile (definition es head body ∷ []) (definition_places dz (w ∷ ws) b)) (lower first)
         (omega arith)
         (compound (definition es head body) (a_line {x = line l (header_form (def_header head) inline)} {z = w} a1 a2 a3 o) n
-        (ends_as (definition_is dz w ws b) (past w.before (past (body_places w ws b) (past (decorator_places dz) (past w.behind ends))))))
+        (ends_as (definition_is dz w ws b) (past w.before (past (body_places w ws b) (past (decorator_places dz) (past w.following ends))))))
 
 -- ---- All statements.
 
@@ -185,10 +185,10 @@ statement_in_order (z ∷ zs) (B.try_finally {xs = xs} {body = body} {final = fi
 statement_in_order (z ∷ zs) (B.try_except {star = star} {xs = xs} {ys = ys} {zs = more} {body = body} {orelse =
     orelse} {final = final} {h = x}
     {hs = hs} b h e f) c o =
-    let behind = drop (length xs) zs in
-    let last = drop (length ys) behind in
+    let following = drop (length xs) zs in
+    let last = drop (length ys) following in
     compound (try_of star body (x ∷ hs) orelse final) o (count_statement (B.try_except b h e f) c)
-    (past (body_places z (take (length xs) zs) b) (past (handlers_places (take (length ys) behind) h)
+    (past (body_places z (take (length xs) zs) b) (past (handlers_places (take (length ys) following) h)
     (past (otherwise_places (take (length more) last) e) (past (ending_places (drop (length more) last) f) ends))))
 statement_in_order (z ∷ zs) (B.match_statement {subject = subject} {cs = cs} e) c o =
     compound (Match subject (cases cs)) o (count_statement (B.match_statement e) c) (past z.before (past (cases_places zs e) ends))

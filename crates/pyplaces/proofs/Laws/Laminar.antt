@@ -1,4 +1,4 @@
--- Places of which one holds the other, or which are apart: where parts stand one behind the other, and where one place holds the others.
+-- Places of which one holds the other, or which are apart: where parts stand one after the other, and where one place holds the others.
 --
 -- Carries: Apart. On: Within.
 use Rattle.std.proofs.Common.{◌≡◌, ◌⊎◌, inl, inr, refl, sym, ap, ◌∙◌, ℕ, ◌+◌, ◌<◌, ◌≤◌, arith, List, [], ◌∷◌, ◌++◌, append_assoc}
@@ -9,7 +9,7 @@ use Rattle.pyplaces.specs.Stretches.{Stretch, stretch}
 use Rattle.pyplaces.specs.EntryPlaces as E
 use Rattle.pyplaces.specs.EntryPlaces.{EntryPlaces}
 use Rattle.pyplaces.specs.ExpressionPlaces.{string_places}
-use Rattle.pyplaces.specs.Laws.{IsWithin, AreWithin, Contains, first, later, AreClear, holds, is_held, before, behind, AreLaminar}
+use Rattle.pyplaces.specs.Laws.{IsWithin, AreWithin, Contains, first, later, AreClear, holds, is_held, before, following, AreLaminar}
 use Rattle.pyplaces.proofs.Laws.Within.{Within, none, more, is_within, ◌⊕◌}
 
 -- ---- What lists contain.
@@ -36,8 +36,8 @@ is_in (p ∷ ps) h (later c) = is_in ps h.1 c
 turned : {s t : Stretch} → AreClear s t → AreClear t s
 turned (holds a b) = is_held a b
 turned (is_held a b) = holds a b
-turned (before a) = behind a
-turned (behind a) = before a
+turned (before a) = following a
+turned (following a) = before a
 
 self : (s : Stretch) → AreClear s s
 self s = holds (omega arith) (omega arith)
@@ -65,7 +65,7 @@ wide l a b = let o = l.ordered in record { ordered = omega arith; within = wider
 pub nothing : {lo hi : ℕ} → lo ≤ hi → Laminar lo hi []
 nothing h = record { ordered = h; within = none; are = λ s t c d. elim c [ ] }
 
--- parts one behind the other
+-- parts one after the other
 crossing : {lo mid next hi : ℕ} (ps qs : List Stretch) → Within lo mid ps → Within next hi qs → mid ≤ next → (s t : Stretch)
     → Contains s ps → Contains t qs → AreClear s t
 crossing ps qs h k m s t c d =
@@ -109,9 +109,9 @@ among {lo} {hi} ps qs f l = record {
 pub as_list : {lo hi : ℕ} {ps qs : List Stretch} → ps ≡ qs → Laminar lo hi ps → Laminar lo hi qs
 as_list {lo} {hi} h l = subst (Laminar lo hi) h l
 
--- ---- A node, behind its parts.
+-- ---- A node, after its parts.
 
-own_are : {lo hi : ℕ} (ps : List Stretch) (o : Stretch) → Laminar lo hi ps → o.first ≤ lo → hi ≤ o.behind → AreLaminar (ps ++ (o ∷ []))
+own_are : {lo hi : ℕ} (ps : List Stretch) (o : Stretch) → Laminar lo hi ps → o.first ≤ lo → hi ≤ o.following → AreLaminar (ps ++ (o ∷ []))
 own_are ps o l a b s t c d = elim (in_both ps (o ∷ []) c) [
   | inl x ↦ elim (in_both ps (o ∷ []) d) [
     | inl y ↦ l.are s t x y
@@ -401,11 +401,11 @@ arranged_laminar es l = among (flat es) (E.arranged es) (λ s c. arranged_in es 
 pub record InRow (row : Stretch) (lo hi : ℕ) (ps : List Stretch) : Type 0 where
   pub ordered : lo ≤ hi
   pub begins : row.first ≤ lo
-  pub ends : hi ≤ row.behind
+  pub ends : hi ≤ row.following
   pub each : (s : Stretch) → Contains s ps → (s ≡ row) ⊎ IsWithin lo hi s
   pub are : AreLaminar ps
 
-pub in_row : {row : Stretch} {lo hi : ℕ} {ps : List Stretch} → Laminar lo hi ps → row.first ≤ lo → hi ≤ row.behind → InRow row lo hi ps
+pub in_row : {row : Stretch} {lo hi : ℕ} {ps : List Stretch} → Laminar lo hi ps → row.first ≤ lo → hi ≤ row.following → InRow row lo hi ps
 in_row {ps = ps} l a b = record {
   ordered = l.ordered;
   begins = a;
@@ -414,15 +414,15 @@ in_row {ps = ps} l a b = record {
   are = l.are;
 }
 
-pub row_none : {row : Stretch} {lo hi : ℕ} → lo ≤ hi → row.first ≤ lo → hi ≤ row.behind → InRow row lo hi []
+pub row_none : {row : Stretch} {lo hi : ℕ} → lo ≤ hi → row.first ≤ lo → hi ≤ row.following → InRow row lo hi []
 row_none h a b = in_row (nothing h) a b
 
 -- the row and one of its places
-row_clear : {row : Stretch} {lo hi : ℕ} (s : Stretch) → row.first ≤ lo → hi ≤ row.behind → (s ≡ row) ⊎ IsWithin lo hi s → AreClear row s
+row_clear : {row : Stretch} {lo hi : ℕ} (s : Stretch) → row.first ≤ lo → hi ≤ row.following → (s ≡ row) ⊎ IsWithin lo hi s → AreClear row s
 row_clear {row} s a b (inl e) = subst (λ x. AreClear row x) (sym e) (self row)
 row_clear s a b (inr w) = holds (omega (arith, w.begins)) (omega (arith, w.ends))
 
-row_cross : {row : Stretch} {lo mid next hi : ℕ} (s t : Stretch) → row.first ≤ lo → mid ≤ row.behind → row.first ≤ next → hi ≤ row.behind
+row_cross : {row : Stretch} {lo mid next hi : ℕ} (s t : Stretch) → row.first ≤ lo → mid ≤ row.following → row.first ≤ next → hi ≤ row.following
     → mid ≤ next → (s ≡ row) ⊎ IsWithin lo mid s → (t ≡ row) ⊎ IsWithin next hi t → AreClear s t
 row_cross s t a b c d m (inl e) y = subst (λ x. AreClear x t) (sym e) (row_clear t c d y)
 row_cross s t a b c d m (inr w) (inl e) = turned (subst (λ x. AreClear x s) (sym e) (row_clear s a b (inr w)))
@@ -433,7 +433,7 @@ row_wide a b (inl e) = inl e
 row_wide a b (inr w) = inr (record { begins = omega (arith, w.begins); some = w.some; ends = omega (arith, w.ends) })
 
 pub row_widen : {row : Stretch} {lo hi low high : ℕ} {ps : List Stretch} → InRow row lo hi ps → low ≤ lo → hi ≤ high → row.first ≤ low
-    → high ≤ row.behind → InRow row low high ps
+    → high ≤ row.following → InRow row low high ps
 row_widen r a b c d = let o = r.ordered in record {
   ordered = omega arith;
   begins = c;
@@ -532,8 +532,8 @@ strings_laminar {row} ss fs r =
       | inr x ↦ of_row row (together fs) [] (λ y. elim y [ ]) x
     ]) r
 
-pub row_laminar : {row : Stretch} {lo hi low high : ℕ} {ps : List Stretch} → InRow row lo hi ps → row.first < row.behind → low ≤ row.first
-    → row.behind ≤ high → Laminar low high ps
+pub row_laminar : {row : Stretch} {lo hi low high : ℕ} {ps : List Stretch} → InRow row lo hi ps → row.first < row.following → low ≤ row.first
+    → row.following ≤ high → Laminar low high ps
 row_laminar {row} {lo} {hi} {low} {high} {ps} r a b c = record {
   ordered = omega arith;
   within = record { are = each ps (λ s d. put s (r.each s d)) };

@@ -11,7 +11,7 @@ pub count : Count
 count spans profile s m a = count_module spans a
 
 pub tokens : Tokens
-tokens profile inside ts f d = let r = tokens_form d in (r.before.are, r.behind.are, r.suite.are)
+tokens profile inside ts f d = let r = tokens_form d in (r.before.are, r.following.are, r.suite.are)
 
 pub nested : Nested
 nested = record {

@@ -1,4 +1,4 @@
--- How many there are in lists that stand one behind the other.
+-- How many there are in lists that stand one after the other.
 --
 -- Carries: Count.
 use Rattle.std.proofs.Common.{◌≡◌, refl, ◌∙◌, ℕ, ◌+◌, arith, List, [], ◌∷◌, ◌++◌, length, length-append}

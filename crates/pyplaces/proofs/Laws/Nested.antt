@@ -17,7 +17,7 @@ use Rattle.pyplaces.proofs.Laws.Tokens.{tokens, tokens_yields, tokens_perhaps, t
 use Rattle.pyplaces.proofs.Laws.Tokens.{tokens_listing}
 use Rattle.pyplaces.proofs.Laws.Tokens.{tokens_comps, formatted_some, some_terminal}
 
--- a place behind others, which it holds
+-- a place after others, which it holds
 pub rooted1 : {lo hi begin end : ℕ} {ps : List Stretch} → Within begin end ps → begin < end → lo ≤ begin → end ≤ hi
     → IsRooted lo hi (ps ++ (stretch begin end ∷ []))
 rooted1 {begin = begin} {end = end} {ps = ps} p a b c = record {
@@ -37,7 +37,7 @@ rooted0 {begin = begin} {end = end} a b c = record {
   holds = tt;
 }
 
--- behind several parts
+-- after several parts
 as_list : {lo hi : ℕ} {ps qs : List Stretch} → ps ≡ qs → IsRooted lo hi qs → IsRooted lo hi ps
 as_list h r = record { fields = r.fields; own = r.own; are = h ∙ r.are; within = r.within; holds = r.holds }
 

@@ -23,9 +23,9 @@ total (arguments ps qs v ks kds k ds) =
 total_is : (a : Arguments) → marked (shown_arguments a) ≡ total a
 total_is (arguments ps qs v ks kds k ds) =
     let last : Fields = a_field (codes "defaults") (Row (shown_exprs ds)) no_field in
-    let behind : Fields = a_field (codes "kwonlyargs") (Row (shown_args ks)) (a_field (codes "kw_defaults") (Row (shown_optionals kds))
+    let following : Fields = a_field (codes "kwonlyargs") (Row (shown_args ks)) (a_field (codes "kw_defaults") (Row (shown_optionals kds))
     (arg_field (codes "kwarg") k last)) in
-    let v1 = arg_sum (codes "vararg") v behind in
+    let v1 = arg_sum (codes "vararg") v following in
     let k1 = arg_sum (codes "kwarg") k last in omega (arith, v1, k1)
 
 abbrev pub entry_total : Entry → ℕ

@@ -20,10 +20,10 @@ none = record { are = tt }
 pub more : {lo hi : ℕ} {s : Stretch} {ps : List Stretch} → IsWithin lo hi s → Within lo hi ps → Within lo hi (s ∷ ps)
 more h p = record { are = (h, p.are) }
 
-pub is_within : {lo hi first behind : ℕ} → lo ≤ first → first < behind → behind ≤ hi → IsWithin lo hi (stretch first behind)
+pub is_within : {lo hi first following : ℕ} → lo ≤ first → first < following → following ≤ hi → IsWithin lo hi (stretch first following)
 is_within a b c = record { begins = a; some = b; ends = c }
 
-pub own : {lo hi first behind : ℕ} → lo ≤ first → first < behind → behind ≤ hi → Within lo hi (stretch first behind ∷ [])
+pub own : {lo hi first following : ℕ} → lo ≤ first → first < following → following ≤ hi → Within lo hi (stretch first following ∷ [])
 own a b c = more (is_within a b c) none
 
 are_both : (lo hi : ℕ) (ps qs : List Stretch) → AreWithin lo hi ps → AreWithin lo hi qs → AreWithin lo hi (ps ++ qs)

@@ -5,8 +5,8 @@ use Rattle.std.proofs.Common.{◌≡◌, refl, sym, ap, ◌∙◌, ◌+◌, arit
 use Rattle.std.specs.List.{flat_map}
 use Rattle.pytoken.specs.Terminals.{Terminal, terminals_of}
 use Rattle.pytoken.specs.Tokens.{Token}
-use Rattle.pygrammar.specs.OpenStrings.{Open, open_behind_all, token_count}
-use Rattle.pygrammar.proofs.Callers.OpenStrings.{behind_append, count_append, terminals_counted, terminals_close}
+use Rattle.pygrammar.specs.OpenStrings.{Open, open_after_all, token_count}
+use Rattle.pygrammar.proofs.Callers.OpenStrings.{after_append, count_append, terminals_counted, terminals_close}
 use Rattle.pyplaces.proofs.Order.TokenLines.{IsSound, AreSound}
 
 abbrev pub terminals_in : List Token → List Terminal
@@ -48,7 +48,7 @@ counts_none [] h = refl
 counts_none (t ∷ m) h = absurd (omega (arith, h))
 
 -- a front of a token that closes what it opens is the whole of it
-whole_token : (t : Token) → IsSound t → (y : Terminal) (p m : List Terminal) → open_behind_all [] (y ∷ p) ≡ []
+whole_token : (t : Token) → IsSound t → (y : Terminal) (p m : List Terminal) → open_after_all [] (y ∷ p) ≡ []
     → terminals_of t.kind t.text ≡ (y ∷ p) ++ m → m ≡ []
 whole_token t sound y p m closes e =
     let one : token_count (terminals_of t.kind t.text) ≡ 1 = terminals_counted t.kind t.text sound.faultless in
@@ -57,7 +57,7 @@ whole_token t sound y p m closes e =
     counts_none m (omega (arith, one, parts, same))
 
 pub cut : (ts : List Token) → AreSound ts → (p q : List Terminal)
-    → open_behind_all [] p ≡ [] → terminals_in ts ≡ p ++ q → Parts ts p q
+    → open_after_all [] p ≡ [] → terminals_in ts ≡ p ++ q → Parts ts p q
 cut [] h [] q closes e = record { front = []; back = []; whole = refl; front_is = refl; back_is = e }
 cut [] h (y ∷ p) q closes e = absurd (let e : [] ≡ y ∷ (p ++ q) = e in cc)
 cut (t ∷ ts) h [] q closes e = record { front = []; back = t ∷ ts; whole = refl; front_is = refl; back_is = e }
@@ -68,7 +68,7 @@ cut (t ∷ ts) h (y ∷ p) q closes e =
     own = terminals_of t.kind t.text
 
     by : Meet own (terminals_in ts) (y ∷ p) q
-        → ((m : List Terminal) → open_behind_all [] m ≡ [] → terminals_in ts ≡ m ++ q → Parts ts m q) → Parts (t ∷ ts) (y ∷ p) q
+        → ((m : List Terminal) → open_after_all [] m ≡ [] → terminals_in ts ≡ m ++ q → Parts ts m q) → Parts (t ∷ ts) (y ∷ p) q
     by (inside m e f) more =
         let none = whole_token t h.0 y p m closes e in
         record {
@@ -79,9 +79,9 @@ cut (t ∷ ts) h (y ∷ p) q closes e =
           back_is = sym (f ∙ ap (λ z. z ++ terminals_in ts) none);
         }
     by (beyond m e f) more =
-        let shut : open_behind_all [] own ≡ [] = terminals_close t.kind t.text [] in
-        let rest : open_behind_all [] m ≡ [] =
-        ap (λ (o : Open). open_behind_all o m) (sym shut) ∙ sym (behind_append [] own m) ∙ ap (open_behind_all []) (sym e) ∙ closes in
+        let shut : open_after_all [] own ≡ [] = terminals_close t.kind t.text [] in
+        let rest : open_after_all [] m ≡ [] =
+        ap (λ (o : Open). open_after_all o m) (sym shut) ∙ sym (after_append [] own m) ∙ ap (open_after_all []) (sym e) ∙ closes in
         let r = more m rest f in
         record {
           front = t ∷ r.front;

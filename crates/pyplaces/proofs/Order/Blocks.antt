@@ -59,7 +59,7 @@ cases_lower low lo hi zs B.no_case a h = omega (arith, a, h)
 cases_lower low lo hi [] (B.case_clause b e) a h = omega (arith, a, h)
 cases_lower low lo hi (z ∷ zs) (B.case_clause b e) a h = (omega (arith, a, h.0), h.1, h.2, h.3)
 
--- ---- A definition's body, behind its header.
+-- ---- A definition's body, after its header.
 
 headed : (profile : Profile) {l : ℕ} {suite : Option (List Stmt)} {xs : List Line} {ss : List Stmt} (z : LinePlaces)
     (zs : List LinePlaces) (b : B.Body l suite xs ss) → OfBody (IsLaidOut profile) z zs b → OfHeaded (IsLaidOut profile) (z ∷ zs) b
@@ -71,7 +71,7 @@ pub some_line : {profile : Profile} {lo hi : ℕ} (ds : List Line) (x : Line) (x
 some_line [] x xs o = elim o [ ]
 some_line (d ∷ ds) x xs o = elim o [ ]
 
--- behind its decorators
+-- after its decorators
 definition_in : {profile : Profile} {lo mid hi l : ℕ} {suite : Option (List Stmt)} {ds xs : List Line} {es : List Expr} {body : List Stmt}
     {dz : List LinePlaces} (top : DefHead) (d : B.Decorators l ds es) (b : B.Body l suite xs body) → Given profile lo ds dz mid
     → (zs : List LinePlaces) → Given profile mid (line l (header_form (def_header top) suite) ∷ xs) zs hi
@@ -183,8 +183,8 @@ mutual
       {orelse = orelse} {final = final} {h = first} {hs = hs} b e o f) g =
       let h = head g in
       let l = h.line_lies in
-      let behind = drop (length xs) zs in
-      let last = drop (length ys) behind in
+      let following = drop (length xs) zs in
+      let last = drop (length ys) following in
       let r = split xs (ys ++ (others ++ ws)) h.others in
       let t = split ys (others ++ ws) r.others in
       let u = split others ws t.others in
@@ -202,7 +202,7 @@ mutual
       let w = ending_in f g4 in
       let c = count_statement (B.try_except b e o f) g.counted in
       compound (try_of star body (first ∷ hs) orelse final) h
-      (four (body_places z (take (length xs) zs) b) (handlers_places (take (length ys) behind) e)
+      (four (body_places z (take (length xs) zs) b) (handlers_places (take (length ys) following) e)
       (otherwise_places (take (length others) last) o) (ending_places (drop (length others) last) f) (own z zs))
       (wide p.lies (omega arith) (omega (arith, k2, k3, k4)) ⊕ (wide q.lies (omega (arith, k1, l.forward)) (omega (arith, k3, k4))
       ⊕ (wide v.lies (omega (arith, k1, k2, l.forward)) (omega (arith, k4)) ⊕ wide w.lies (omega (arith, k1, k2, k3, l.forward))

@@ -5,7 +5,7 @@
 use Rattle.std.proofs.Common.{◌≡◌, refl, sym, ap, ◌∙◌, subst, ℕ, zero, suc, ◌+◌, ◌<◌, ◌≤◌, arith, List, [], ◌∷◌, ◌++◌, append_assoc}
 use Rattle.std.proofs.Common.{length, length-append}
 use Rattle.pyparse_marks.specs.Spans.{Span, span}
-use Rattle.pyplaces.specs.Stretches.{span_behind}
+use Rattle.pyplaces.specs.Stretches.{span_after}
 use Rattle.pyplaces.specs.Spans.{LiesBetween, AllLieBetween}
 
 -- ---- Spans in some bytes.
@@ -24,7 +24,7 @@ all_both lo hi (s ∷ ss) rs h k = (h.0, all_both lo hi ss rs h.1 k)
 
 -- ---- Spans that rise.
 
--- all begin here or before it, or end here or behind it
+-- all begin here or before it, or end here or after it
 abbrev pub Starts : ℕ → List Span → Type 0
 Starts n [] = Unit {0}
 Starts n (s ∷ ss) = (s.start ≤ n) × Starts n ss
@@ -53,7 +53,7 @@ stops_both : (n : ℕ) (ss rs : List Span) → Stops n ss → Stops n rs → Sto
 stops_both n [] rs h k = k
 stops_both n (s ∷ ss) rs h k = (h.0, stops_both n ss rs h.1 k)
 
--- all of the first begin at a byte or before it, and all of the others end there or behind it
+-- all of the first begin at a byte or before it, and all of the others end there or after it
 pub rises_both : (n : ℕ) (ss rs : List Span) → Rises ss → Rises rs → Starts n ss → Stops n rs → Rises (ss ++ rs)
 rises_both n [] rs h k a b = k
 rises_both n (s ∷ ss) rs h k a b =
@@ -118,54 +118,54 @@ fills_both {a} {b} {c} {d} {ss = ss} {rs = rs} f g h =
       rises = rises_both b ss rs f.rises g.rises (starts_by a b ss f.inside) (stops_earlier b c rs h (stops_by c d rs g.inside));
     }
 
--- ---- The span behind so many.
+-- ---- The span after so many.
 
-pub behind_lies : (lo hi : ℕ) (ss : List Span) (i : ℕ) → i < length ss → AllLieBetween lo hi ss → LiesBetween lo hi (span_behind i ss)
-behind_lies lo hi [] i l h = absurd (omega (arith, l))
-behind_lies lo hi (s ∷ ss) zero l h = h.0
-behind_lies lo hi (s ∷ ss) (suc i) l h = behind_lies lo hi ss i (omega (arith, l)) h.1
+pub after_lies : (lo hi : ℕ) (ss : List Span) (i : ℕ) → i < length ss → AllLieBetween lo hi ss → LiesBetween lo hi (span_after i ss)
+after_lies lo hi [] i l h = absurd (omega (arith, l))
+after_lies lo hi (s ∷ ss) zero l h = h.0
+after_lies lo hi (s ∷ ss) (suc i) l h = after_lies lo hi ss i (omega (arith, l)) h.1
 
-behind_stops : (n : ℕ) (ss : List Span) (i : ℕ) → i < length ss → Stops n ss → n ≤ (span_behind i ss).stop
-behind_stops n [] i l h = absurd (omega (arith, l))
-behind_stops n (s ∷ ss) zero l h = h.0
-behind_stops n (s ∷ ss) (suc i) l h = behind_stops n ss i (omega (arith, l)) h.1
+after_stops : (n : ℕ) (ss : List Span) (i : ℕ) → i < length ss → Stops n ss → n ≤ (span_after i ss).stop
+after_stops n [] i l h = absurd (omega (arith, l))
+after_stops n (s ∷ ss) zero l h = h.0
+after_stops n (s ∷ ss) (suc i) l h = after_stops n ss i (omega (arith, l)) h.1
 
 -- what begins at a span and ends at a later one
-behind_rises : (lo hi : ℕ) (ss : List Span) (i j : ℕ) → i ≤ j → j < length ss → AllLieBetween lo hi ss → Rises ss
-    → (span_behind i ss).start ≤ (span_behind j ss).stop
-behind_rises lo hi [] i j k l h r = absurd (omega (arith, l))
-behind_rises lo hi (s ∷ ss) zero zero k l h r = let o = h.0 in omega (arith, o.forward)
-behind_rises lo hi (s ∷ ss) zero (suc j) k l h r = behind_stops s.start ss j (omega (arith, l)) r.0
-behind_rises lo hi (s ∷ ss) (suc i) zero k l h r = absurd (omega (arith, k))
-behind_rises lo hi (s ∷ ss) (suc i) (suc j) k l h r = behind_rises lo hi ss i j (omega (arith, k)) (omega (arith, l)) h.1 r.1
+after_rises : (lo hi : ℕ) (ss : List Span) (i j : ℕ) → i ≤ j → j < length ss → AllLieBetween lo hi ss → Rises ss
+    → (span_after i ss).start ≤ (span_after j ss).stop
+after_rises lo hi [] i j k l h r = absurd (omega (arith, l))
+after_rises lo hi (s ∷ ss) zero zero k l h r = let o = h.0 in omega (arith, o.forward)
+after_rises lo hi (s ∷ ss) zero (suc j) k l h r = after_stops s.start ss j (omega (arith, l)) r.0
+after_rises lo hi (s ∷ ss) (suc i) zero k l h r = absurd (omega (arith, k))
+after_rises lo hi (s ∷ ss) (suc i) (suc j) k l h r = after_rises lo hi ss i j (omega (arith, k)) (omega (arith, l)) h.1 r.1
 
 pub between : {lo hi : ℕ} {ss : List Span} → Fills lo hi ss → (i j : ℕ) → i ≤ j → j < length ss
-    → LiesBetween lo hi (span (span_behind i ss).start (span_behind j ss).stop)
+    → LiesBetween lo hi (span (span_after i ss).start (span_after j ss).stop)
 between {lo} {hi} {ss} f i j k l =
-    let a = behind_lies lo hi ss i (omega (arith, k, l)) f.inside in
-    let b = behind_lies lo hi ss j l f.inside in
-    record { begins = a.begins; forward = behind_rises lo hi ss i j k l f.inside f.rises; ends = b.ends }
+    let a = after_lies lo hi ss i (omega (arith, k, l)) f.inside in
+    let b = after_lies lo hi ss j l f.inside in
+    record { begins = a.begins; forward = after_rises lo hi ss i j k l f.inside f.rises; ends = b.ends }
 
-pub behind_first : {lo hi : ℕ} {ss : List Span} → Fills lo hi ss → (span_behind 0 ss).start ≡ lo
-behind_first f = ap (λ z. (span_behind 0 z).start) f.from_first ∙ f.begins
+pub following_first : {lo hi : ℕ} {ss : List Span} → Fills lo hi ss → (span_after 0 ss).start ≡ lo
+following_first f = ap (λ z. (span_after 0 z).start) f.from_first ∙ f.begins
 
-at_end : (es : List Span) (s : Span) (i : ℕ) → i + 1 ≡ length (es ++ (s ∷ [])) → span_behind i (es ++ (s ∷ [])) ≡ s
+at_end : (es : List Span) (s : Span) (i : ℕ) → i + 1 ≡ length (es ++ (s ∷ [])) → span_after i (es ++ (s ∷ [])) ≡ s
 at_end [] s zero h = refl
 at_end [] s (suc i) h = absurd (omega (arith, h))
 at_end (e ∷ es) s zero h = absurd (omega (arith, h, length-append es (s ∷ [])))
 at_end (e ∷ es) s (suc i) h = at_end es s i (omega (arith, h))
 
-pub behind_last : {lo hi : ℕ} {ss : List Span} → Fills lo hi ss → (i : ℕ) → i + 1 ≡ length ss → (span_behind i ss).stop ≡ hi
-behind_last f i h =
-    ap (λ z. (span_behind i z).stop) f.to_last ∙ (ap (λ z. z.stop) (at_end f.earlier f.last i (h ∙ ap length f.to_last)) ∙ f.ends)
+pub following_last : {lo hi : ℕ} {ss : List Span} → Fills lo hi ss → (i : ℕ) → i + 1 ≡ length ss → (span_after i ss).stop ≡ hi
+following_last f i h =
+    ap (λ z. (span_after i z).stop) f.to_last ∙ (ap (λ z. z.stop) (at_end f.earlier f.last i (h ∙ ap length f.to_last)) ∙ f.ends)
 
 -- among others
-pub behind_middle : (before ss after : List Span) (i n : ℕ) → n ≡ length before + i → i < length ss
-    → span_behind n (before ++ (ss ++ after)) ≡ span_behind i ss
-behind_middle [] [] after i n e l = absurd (omega (arith, l))
-behind_middle [] (s ∷ ss) after zero zero e l = refl
-behind_middle [] (s ∷ ss) after zero (suc n) e l = absurd (omega (arith, e))
-behind_middle [] (s ∷ ss) after (suc i) zero e l = absurd (omega (arith, e))
-behind_middle [] (s ∷ ss) after (suc i) (suc n) e l = behind_middle [] ss after i n (omega (arith, e)) (omega (arith, l))
-behind_middle (b ∷ before) ss after i zero e l = absurd (omega (arith, e))
-behind_middle (b ∷ before) ss after i (suc n) e l = behind_middle before ss after i n (omega (arith, e)) l
+pub after_middle : (before ss after : List Span) (i n : ℕ) → n ≡ length before + i → i < length ss
+    → span_after n (before ++ (ss ++ after)) ≡ span_after i ss
+after_middle [] [] after i n e l = absurd (omega (arith, l))
+after_middle [] (s ∷ ss) after zero zero e l = refl
+after_middle [] (s ∷ ss) after zero (suc n) e l = absurd (omega (arith, e))
+after_middle [] (s ∷ ss) after (suc i) zero e l = absurd (omega (arith, e))
+after_middle [] (s ∷ ss) after (suc i) (suc n) e l = after_middle [] ss after i n (omega (arith, e)) (omega (arith, l))
+after_middle (b ∷ before) ss after i zero e l = absurd (omega (arith, e))
+after_middle (b ∷ before) ss after i (suc n) e l = after_middle before ss after i n (omega (arith, e)) l

@@ -15,7 +15,7 @@ use Rattle.pyfstring.specs.declared.parts.Manner.{Manner}
 use Rattle.pyfstring.specs.Parts.{FieldParts, Part, field, BodyPart}
 use Rattle.pyfstring.specs.Pieces.{IsText, Keeps, unkept, kept, Converts, unconverted, by_str, by_repr, by_ascii, Specifies, unspecified}
 use Rattle.pyfstring.specs.Pieces.{specified, IsField, Cuts, last_text, and_field, IsInnerSpec, IsSpec, IsCut, is_blank_or_tabulation}
-use Rattle.pyfstring.specs.Pieces.{behind_blanks}
+use Rattle.pyfstring.specs.Pieces.{after_blanks}
 use Rattle.pyparse_marks.specs.Spans.{Span, span}
 use Rattle.pyparse_marks.specs.TokenSpans.{Walk, Around, put, further, moved, past_each, past_text, with_kept, is_conversion}
 use Rattle.pyparse_marks.specs.TokenSpans.{past_conversion, source_len, past_spec, past_part, past_spec_parts, past_body_parts}
@@ -29,9 +29,9 @@ bytes_drop zero cs = omega arith
 bytes_drop (suc n) [] = omega arith
 bytes_drop (suc n) (c ∷ cs) = omega (arith, bytes_drop n cs, bytes_both (c ∷ []) cs)
 
-byte_behind : (xs ys : List ℕ) → slice_index_or (xs ++ ys) (length xs) 0 ≡ slice_index_or ys 0 0
-byte_behind [] ys = refl
-byte_behind (x ∷ xs) ys = byte_behind xs ys
+byte_following : (xs ys : List ℕ) → slice_index_or (xs ++ ys) (length xs) 0 ≡ slice_index_or ys 0 0
+byte_following [] ys = refl
+byte_following (x ∷ xs) ys = byte_following xs ys
 
 -- some characters that end in one of the last text
 module _ (lo hi : ℕ) (first : Span) (t tail : List ℕ) (begin : ℕ) (low : lo ≤ begin) (high : begin + bytes_in t ≤ hi) where
@@ -95,9 +95,9 @@ module _ (lo hi : ℕ) (first : Span) (t tail : List ℕ) (begin : ℕ) (low : l
     kept_at None w = refl
     kept_at (Some k) w = refl
 
-    -- something is left behind it
-    some_kept : {S : Type 0} {Is : List ℕ → S → List ℕ → Type 0} {cs behind rest : List ℕ} {c : Conversion} {o : Option S}
-        → Converts cs c behind → Specifies Is behind o (right_curly_bracket ∷ rest) → 0 < bytes_in cs
+    -- something is left after it
+    some_kept : {S : Type 0} {Is : List ℕ → S → List ℕ → Type 0} {cs following rest : List ℕ} {c : Conversion} {o : Option S}
+        → Converts cs c following → Specifies Is following o (right_curly_bracket ∷ rest) → 0 < bytes_in cs
     unfolding lib.Utf8.encode
     some_kept (by_str {rest = r}) p = omega (arith, bytes_both (exclamation_mark ∷ []) (small_s ∷ r))
     some_kept (by_repr {rest = r}) p = omega (arith, bytes_both (exclamation_mark ∷ []) (small_r ∷ r))
@@ -106,9 +106,9 @@ module _ (lo hi : ℕ) (first : Span) (t tail : List ℕ) (begin : ℕ) (low : l
     some_kept (unconverted e) (specified {cs = cs} f) = omega (arith, bytes_both (colon ∷ []) cs)
 
     -- where the expression and what is kept of the field end
-    keeps_at : {n : Bool} {cs here behind : List ℕ} {k : Option (List ℕ)} (x : List ℕ) (m : ℕ) → At (left_curly_bracket ∷ cs) m
-        → cs ≡ x ++ here → Keeps n cs here k behind
-        → At behind (m + 1 + source_len x k) × (m + (1 + bytes_in x) ≤ m + 1 + source_len x k)
+    keeps_at : {n : Bool} {cs here following : List ℕ} {k : Option (List ℕ)} (x : List ℕ) (m : ℕ) → At (left_curly_bracket ∷ cs) m
+        → cs ≡ x ++ here → Keeps n cs here k following
+        → At following (m + 1 + source_len x k) × (m + (1 + bytes_in x) ≤ m + 1 + source_len x k)
     unfolding lib.Utf8.encode
     keeps_at {cs = cs} {here = here} x m p e (unkept f) =
         let q = at_on (left_curly_bracket ∷ cs) (left_curly_bracket ∷ []) cs m p refl in
@@ -116,17 +116,17 @@ module _ (lo hi : ℕ) (first : Span) (t tail : List ℕ) (begin : ℕ) (low : l
     keeps_at {cs = cs} x m p e (kept {here = here} {k = k} f g) =
         let q = at_on (left_curly_bracket ∷ cs) (left_curly_bracket ∷ []) cs m p refl in
         let one : bytes_in cs ≡ bytes_in x + bytes_in (equals_sign ∷ here) = ap bytes_in e ∙ bytes_both x (equals_sign ∷ here) in
-        let two : bytes_in cs ≡ bytes_in k + bytes_in (behind_blanks here) = ap bytes_in g ∙ bytes_both k (behind_blanks here) in
+        let two : bytes_in cs ≡ bytes_in k + bytes_in (after_blanks here) = ap bytes_in g ∙ bytes_both k (after_blanks here) in
         let less = bytes_drop (prefix_len is_blank_or_tabulation here) here in
         let first = bytes_both (equals_sign ∷ []) here in
-        (at_on cs k (behind_blanks here) (m + 1) q g, omega (arith, one, two, less, first))
+        (at_on cs k (after_blanks here) (m + 1) q g, omega (arith, one, two, less, first))
 
-    front_stands : {S : Type 0} {Is : List ℕ → S → List ℕ → Type 0} {n : Bool} {cs here behind after rest : List ℕ}
+    front_stands : {S : Type 0} {Is : List ℕ → S → List ℕ → Type 0} {n : Bool} {cs here following after rest : List ℕ}
         {k : Option (List ℕ)} {c : Conversion} {o : Option S} (x : List ℕ) (w : Walk) → Stands (left_curly_bracket ∷ cs) w
-        → cs ≡ x ++ here → Keeps n cs here k behind → Converts behind c after
+        → cs ≡ x ++ here → Keeps n cs here k following → Converts following c after
         → Specifies Is after o (right_curly_bracket ∷ rest)
-        → Stands behind (moved (w.at + 1 + source_len x k) (expression x (put a.whole (with_kept a k w))))
-    front_stands {cs = cs} {behind = behind} {k = k} x w s e keeps converts specifies =
+        → Stands following (moved (w.at + 1 + source_len x k) (expression x (put a.whole (with_kept a k w))))
+    front_stands {cs = cs} {following = following} {k = k} x w s e keeps converts specifies =
         let begun = put whole (with_kept a k w) in
         let inner = put_whole (left_curly_bracket ∷ cs) (with_kept a k w) (with_kept_stands (left_curly_bracket ∷ cs) k w s) in
         let p = keeps_at x w.at s.at e keeps in
@@ -146,7 +146,7 @@ module _ (lo hi : ℕ) (first : Span) (t tail : List ℕ) (begin : ℕ) (low : l
         ap (λ z. slice_index_or (encode_utf8_all t) z 0) size
         ∙ ap (λ z. slice_index_or z (length (encode_utf8_all p.before)) 0)
         (ap encode_utf8_all p.is ∙ encodes-append p.before (cs ++ tail))
-        ∙ byte_behind (encode_utf8_all p.before) (encode_utf8_all (cs ++ tail))
+        ∙ byte_following (encode_utf8_all p.before) (encode_utf8_all (cs ++ tail))
 
     mark_stands : (cs : List ℕ) (b : Bool) (w : Walk) → Stands (exclamation_mark ∷ cs) w → (c : ℕ) (rest : List ℕ)
         → exclamation_mark ∷ cs ≡ exclamation_mark ∷ c ∷ rest → bytes_in (c ∷ []) ≡ 1 → Stands rest (past_conversion a w)
@@ -195,8 +195,8 @@ module _ (lo hi : ℕ) (first : Span) (t tail : List ℕ) (begin : ℕ) (low : l
     field_stands Is spec goes n cs f rest i w s =
         let front = front_stands f.text w s i.expression.whole i.keeps i.converts i.specifies in
         let there = moved (w.at + 1 + source_len f.text f.kept) (expression f.text (put a.whole (with_kept a f.kept w))) in
-        let behind = converts_stands there front i.converts i.specifies in
-        let last = spec_stands Is spec goes (past_conversion a there) behind i.specifies in
+        let following = converts_stands there front i.converts i.specifies in
+        let last = spec_stands Is spec goes (past_conversion a there) following i.specifies in
         let ended = past_spec spec a f.spec (past_conversion a there) in
         past (right_curly_bracket ∷ rest) (right_curly_bracket ∷ []) rest (put whole ended)
         (put_whole (right_curly_bracket ∷ rest) ended last) refl
@@ -205,10 +205,10 @@ module _ (lo hi : ℕ) (first : Span) (t tail : List ℕ) (begin : ℕ) (low : l
         → (n : Bool) {cs rest : List ℕ} {parts : List (Part S)} → Cuts raw pairs (IsField Is n) cs parts rest → (w : Walk)
         → Stands cs w → Stands rest (past_each (past_part expression spec a) parts w)
     cuts_stand Is spec goes n (last_text i e) w s = text_stands w i s
-    cuts_stand Is spec goes n (and_field {t = x} {inside = inside} {behind = behind} {f = f} i g c) w s =
+    cuts_stand Is spec goes n (and_field {t = x} {inside = inside} {following = following} {f = f} i g c) w s =
         let begun = past_text a x w in
         cuts_stand Is spec goes n c (past_part expression spec a (field f) begun)
-        (field_stands Is spec goes n inside f behind g begun (text_stands w i s))
+        (field_stands Is spec goes n inside f following g begun (text_stands w i s))
 
     -- ---- Both depths.
 

@@ -1,11 +1,11 @@
--- Spans between two bytes any two of which are clear of each other: one part behind another, and one span that holds the others.
+-- Spans between two bytes any two of which are clear of each other: one part after another, and one span that holds the others.
 --
 -- Carries: Laminar and its steps, for LaminarBlocks; spans_in_line, for LaminarLines. On: Together.
 use Rattle.std.proofs.Common.{◌≡◌, ◌⊎◌, inl, inr, sym, subst, ℕ, ◌≤◌, arith, List, [], ◌∷◌, ◌++◌}
 use Rattle.pyparse_marks.specs.Spans.{Span}
 use Rattle.pyplaces.specs.BlockPlaces.{LinePlaces}
 use Rattle.pyplaces.specs.Spans.{LiesBetween, AllLieBetween}
-use Rattle.pyplaces.specs.Laminar.{IsAmong, at_front, further_on, AreClearSpans, holds_it, held_by_it, ends_first, begins_behind}
+use Rattle.pyplaces.specs.Laminar.{IsAmong, at_front, further_on, AreClearSpans, holds_it, held_by_it, ends_first, begins_after}
 use Rattle.pyplaces.proofs.Order.Together.{In, nothing, ◌⊕◌, wide}
 
 -- ---- What stands in lists.
@@ -31,7 +31,7 @@ is_in (p ∷ ps) h (further_on c) = is_in ps h.1 c
 
 -- all that stand in a line
 abbrev pub spans_in_line : LinePlaces → List Span
-spans_in_line z = (z.before ++ z.behind) ++ z.suite
+spans_in_line z = (z.before ++ z.following) ++ z.suite
 
 -- ---- Spans that are clear, by what is known of those of a line.
 
@@ -62,7 +62,7 @@ module _ (R : Span → Span → Type 0) (clear : (s t : Span) → AreClearSpans 
       each [] g = tt
       each (s ∷ ss) g = (g s at_front, each ss (λ t c. g t (further_on c)))
 
-  -- parts one behind the other
+  -- parts one after the other
   pub both : {lo mid next hi : ℕ} {ps qs : List Span} → Laminar lo mid ps → Laminar next hi qs → mid ≤ next → Laminar lo hi (ps ++ qs)
   both {lo} {mid} {next} {hi} {ps} {qs} p q m =
       let a = p.ordered in
@@ -83,7 +83,7 @@ module _ (R : Span → Span → Type 0) (clear : (s t : Span) → AreClearSpans 
       by : (s t : Span) → IsAmong s ps ⊎ IsAmong s qs → IsAmong t ps ⊎ IsAmong t qs → R s t
       by s t (inl x) (inl y) = p.are s t x y
       by s t (inl x) (inr y) = clear s t (ends_first (apart s t x y))
-      by s t (inr x) (inl y) = clear s t (begins_behind (apart t s y x))
+      by s t (inr x) (inl y) = clear s t (begins_after (apart t s y x))
       by s t (inr x) (inr y) = q.are s t x y
 
   -- and a span that holds them

@@ -81,31 +81,31 @@ module _ (R : Span → Span → Type 0) (clear : (s t : Span) → AreClearSpans 
   line_apart : {profile : Profile} {f : Form} {z : LinePlaces} → LineLies profile f z → LineLaminar z
       → Apart z.whole.start z.whole.stop (spans_in_line z)
   line_apart {z = z} l k =
-      let behind : In z.whole.start z.whole.stop z.behind = record { are = l.behind } in
-      record { ordered = l.forward; lie = (before_in l ⊕ behind) ⊕ suite_lies l; are = k }
+      let following : In z.whole.start z.whole.stop z.following = record { are = l.following } in
+      record { ordered = l.forward; lie = (before_in l ⊕ following) ⊕ suite_lies l; are = k }
 
   before_apart : {profile : Profile} {f : Form} {z : LinePlaces} → LineLies profile f z → LineLaminar z
       → Apart z.whole.start z.whole.stop z.before
   before_apart {z = z} l k =
-      among R clear (spans_in_line z) z.before (λ s c. in_front (z.before ++ z.behind) z.suite (in_front z.before z.behind c))
+      among R clear (spans_in_line z) z.before (λ s c. in_front (z.before ++ z.following) z.suite (in_front z.before z.following c))
       (line_apart l k)
 
   header_apart : {profile : Profile} {f : Form} {z : LinePlaces} → LineLies profile f z → LineLaminar z
-      → Apart z.whole.start z.whole.stop (z.before ++ z.behind)
+      → Apart z.whole.start z.whole.stop (z.before ++ z.following)
   header_apart {z = z} l k =
-      among R clear (spans_in_line z) (z.before ++ z.behind) (λ s c. in_front (z.before ++ z.behind) z.suite c) (line_apart l k)
+      among R clear (spans_in_line z) (z.before ++ z.following) (λ s c. in_front (z.before ++ z.following) z.suite c) (line_apart l k)
 
   suite_apart : {profile : Profile} {f : Form} {z : LinePlaces} → LineLies profile f z → LineLaminar z
       → Apart z.whole.start z.whole.stop z.suite
-  suite_apart {z = z} l k = among R clear (spans_in_line z) z.suite (λ s c. in_back (z.before ++ z.behind) z.suite c) (line_apart l k)
+  suite_apart {z = z} l k = among R clear (spans_in_line z) z.suite (λ s c. in_back (z.before ++ z.following) z.suite c) (line_apart l k)
 
   -- of a header and its body
-  top_of : {lo hi : ℕ} (z : LinePlaces) (body : List Span) → Apart lo hi ((z.before ++ z.behind) ++ body) → Apart lo hi (z.before ++ body)
+  top_of : {lo hi : ℕ} (z : LinePlaces) (body : List Span) → Apart lo hi ((z.before ++ z.following) ++ body) → Apart lo hi (z.before ++ body)
   top_of z body l =
-      among R clear ((z.before ++ z.behind) ++ body) (z.before ++ body) (λ s c. without z.before z.behind body c) l
+      among R clear ((z.before ++ z.following) ++ body) (z.before ++ body) (λ s c. without z.before z.following body c) l
 
-  body_of : {lo hi : ℕ} (z : LinePlaces) (body : List Span) → Apart lo hi ((z.before ++ z.behind) ++ body) → Apart lo hi body
-  body_of z body l = among R clear ((z.before ++ z.behind) ++ body) body (λ s c. in_back (z.before ++ z.behind) body c) l
+  body_of : {lo hi : ℕ} (z : LinePlaces) (body : List Span) → Apart lo hi ((z.before ++ z.following) ++ body) → Apart lo hi body
+  body_of z body l = among R clear ((z.before ++ z.following) ++ body) body (λ s c. in_back (z.before ++ z.following) body c) l
 
   -- with the own span of a compound statement
   with_own : {profile : Profile} {lo hi : ℕ} {f : Form} {xs : List Line} {z : LinePlaces} {zs : List LinePlaces} {ps : List Span}
@@ -121,13 +121,13 @@ module _ (R : Span → Span → Type 0) (clear : (s t : Span) → AreClearSpans 
   decorators_apart (one_more a l o) k =
       wider R clear (both R clear (before_apart l k.0) (decorators_apart o k.1) (omega arith)) a (omega arith)
 
-  -- behind its decorators
+  -- after its decorators
   definition_apart : {profile : Profile} {lo mid hi l : ℕ} {x : Header} {suite : Option (List Stmt)} {ds xs : List Line}
       {body : List Stmt} {dz : List LinePlaces} (b : B.Body l suite xs body) → Given profile lo ds dz mid → LinesLaminar dz
       → (zs : List LinePlaces) → Given profile mid (line l (header_form x suite) ∷ xs) zs hi → LinesLaminar zs
       → ((w : LinePlaces) (ws : List LinePlaces) → LineLies profile (header_form x suite) w
       → Given profile w.whole.stop xs ws (ending w.whole.start (w ∷ ws)).stop → LinesLaminar (w ∷ ws)
-      → Apart w.whole.start (ending w.whole.start (w ∷ ws)).stop ((w.before ++ w.behind) ++ body_places w ws b))
+      → Apart w.whole.start (ending w.whole.start (w ∷ ws)).stop ((w.before ++ w.following) ++ body_places w ws b))
       → Apart lo hi (definition_places dz zs b)
   definition_apart b g j [] k m p = elim k.lie [ ]
   definition_apart {dz = dz} b g j (w ∷ ws) k m p =
@@ -135,8 +135,8 @@ module _ (R : Span → Span → Type 0) (clear : (s t : Span) → AreClearSpans 
       let body = body_places w ws b in
       let above = decorator_places dz in
       as_those R clear (definition_is dz w ws b)
-      (among R clear (above ++ (((w.before ++ w.behind) ++ body) ++ own w ws))
-      (w.before ++ (body ++ (above ++ (w.behind ++ own w ws)))) (λ s c. in_definition w.before body above w.behind (own w ws) c)
+      (among R clear (above ++ (((w.before ++ w.following) ++ body) ++ own w ws))
+      (w.before ++ (body ++ (above ++ (w.following ++ own w ws)))) (λ s c. in_definition w.before body above w.following (own w ws) c)
       (both R clear (decorators_apart g.lie j) (with_own h (p w ws h.line_lies h.others m)) (omega arith)))
 
   -- ---- All of them.
@@ -194,20 +194,20 @@ module _ (R : Span → Span → Type 0) (clear : (s t : Span) → AreClearSpans 
     laminar_statement {zs = []} (B.try_except b e o f) g k = elim g.lie [ ]
     laminar_statement {zs = z ∷ zs} (B.try_except {xs = xs} {ys = ys} {zs = others} {ws = ws} b e o f) g k =
         let h = head g in
-        let behind = drop (length xs) zs in
-        let last = drop (length ys) behind in
+        let following = drop (length xs) zs in
+        let last = drop (length ys) following in
         let r = split xs (ys ++ (others ++ ws)) h.others in
         let t = split ys (others ++ ws) r.others in
         let u = split others ws t.others in
         let k2 = in_others (length xs) zs k.1 in
-        let k3 = in_others (length ys) behind k2 in
+        let k3 = in_others (length ys) following k2 in
         let p = body_of z (body_places z (take (length xs) zs) b)
         (laminar_whole b z (take (length xs) zs) h.line_lies r.first (k.0, in_first (length xs) zs k.1)) in
-        let q = laminar_handlers e t.first (in_first (length ys) behind k2) in
+        let q = laminar_handlers e t.first (in_first (length ys) following k2) in
         let v = laminar_otherwise o u.first (in_first (length others) last k3) in
         let w = laminar_ending f u.others (in_others (length others) last k3) in
         as_those R clear
-        (four (body_places z (take (length xs) zs) b) (handlers_places (take (length ys) behind) e)
+        (four (body_places z (take (length xs) zs) b) (handlers_places (take (length ys) following) e)
         (otherwise_places (take (length others) last) o) (ending_places (drop (length others) last) f) (own z zs))
         (with_own h (both R clear p (both R clear q (both R clear v w (omega arith)) (omega arith)) (omega arith)))
     laminar_statement {l = l} {zs = []} (B.definition_of top {suite = suite} {ds = ds} {xs = xs} d b) g k =
@@ -227,7 +227,7 @@ module _ (R : Span → Span → Type 0) (clear : (s t : Span) → AreClearSpans 
     laminar_whole : {profile : Profile} {l hi : ℕ} {x : Header} {suite : Option (List Stmt)} {xs : List Line} {ss : List Stmt}
         (b : B.Body l suite xs ss) (z : LinePlaces) (zs : List LinePlaces) → LineLies profile (header_form x suite) z
         → Given profile z.whole.stop xs zs hi → LinesLaminar (z ∷ zs)
-        → Apart z.whole.start hi ((z.before ++ z.behind) ++ body_places z zs b)
+        → Apart z.whole.start hi ((z.before ++ z.following) ++ body_places z zs b)
     laminar_whole B.inline z zs a g k = wider R clear (line_apart a k.0) (omega arith) (reaches g.lie)
     laminar_whole (B.indented b) z zs a g k = both R clear (header_apart a k.0) (laminar_block b g k.1) (omega arith)
 

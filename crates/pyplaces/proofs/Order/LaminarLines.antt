@@ -1,4 +1,4 @@
--- The spans of a line are clear of each other, as its places are, where one of them is of whole tokens: these stand one behind another.
+-- The spans of a line are clear of each other, as its places are, where one of them is of whole tokens: these stand one after another.
 --
 -- Carries: lines_laminar, for Law. On: LaminarBlocks, LineSpans.
 use Rattle.std.proofs.Common.{◌≡◌, ◌⊎◌, inl, inr, refl, sym, ap, ◌∙◌, subst, ℕ, zero, suc, ◌+◌, ◌-◌, ◌<◌, ◌≤◌, arith, Bool, true, false}
@@ -19,18 +19,18 @@ use Rattle.pyparse_marks.specs.TokenSpans.{Walk, past_single, past_formatted, pa
 use Rattle.pygrammar.specs.Forms as F
 use Rattle.pygrammar.specs.Lines.{Line, Form}
 use Rattle.pygrammar.specs.Refusals.{Formed, formed_end, formed_line}
-use Rattle.pyplaces.specs.Stretches.{Span, Stretch, span_behind, span_of, spans_of}
+use Rattle.pyplaces.specs.Stretches.{Span, Stretch, span_after, span_of, spans_of}
 use Rattle.pyplaces.specs.FormPlaces.{FormPlaces, places_at}
 use Rattle.pyplaces.specs.BlockPlaces.{line_of}
 use Rattle.pyplaces.specs.ModulePlaces.{formed_places}
 use Rattle.pyplaces.specs.Laws.{IsWithin, AreWithin}
 use Rattle.pyplaces.specs.Laws as Law
 use Rattle.pyplaces.proofs.Laws.Law.{places_are_lawful}
-use Rattle.pyplaces.specs.Laminar.{IsAmong, at_front, further_on, AreClearSpans, holds_it, held_by_it, ends_first, begins_behind}
+use Rattle.pyplaces.specs.Laminar.{IsAmong, at_front, further_on, AreClearSpans, holds_it, held_by_it, ends_first, begins_after}
 use Rattle.pyplaces.specs.Laminar.{are_whole, is_of_tokens, has_fstring, StandsInAField, places_in_line, StandInFields}
 use Rattle.pyplaces.proofs.Order.TokenLines.{AreSound, TokensIn, LinesIn, are_sound, begin_of}
 use Rattle.pyplaces.proofs.Order.Aligned.{terminals_in}
-use Rattle.pyplaces.proofs.Order.Filling.{behind_lies, behind_first, behind_last, behind_middle}
+use Rattle.pyplaces.proofs.Order.Filling.{after_lies, following_first, following_last, after_middle}
 use Rattle.pyplaces.proofs.Order.LineSpans.{spans_in, one_length, lengths, split_in}
 use Rattle.pyplaces.proofs.Order.Simples.{some_token}
 use Rattle.pyplaces.proofs.Order.Laminar.{spans_in_line}
@@ -86,15 +86,15 @@ plain_whole text (t ∷ ts) h e (suc n) l =
 -- ---- Spans in two parts, of which the second begins where a token does.
 
 record IsParted (n : ℕ) (ss : List Span) : Type 0 where
-  apart : (i j : ℕ) → i < n → n ≤ j → j < length ss → (span_behind i ss).stop ≤ (span_behind j ss).start
-  begins : (j : ℕ) → n ≤ j → j < length ss → (span_behind n ss).start ≤ (span_behind j ss).start
-  ends : (i : ℕ) → i < n → (span_behind i ss).stop ≤ (span_behind (n - 1) ss).stop
+  apart : (i j : ℕ) → i < n → n ≤ j → j < length ss → (span_after i ss).stop ≤ (span_after j ss).start
+  begins : (j : ℕ) → n ≤ j → j < length ss → (span_after n ss).start ≤ (span_after j ss).start
+  ends : (i : ℕ) → i < n → (span_after i ss).stop ≤ (span_after (n - 1) ss).stop
 
-in_first : (ss rs : List Span) (i : ℕ) → i < length ss → span_behind i (ss ++ rs) ≡ span_behind i ss
-in_first ss rs i l = behind_middle [] ss rs i i (omega arith) l
+in_first : (ss rs : List Span) (i : ℕ) → i < length ss → span_after i (ss ++ rs) ≡ span_after i ss
+in_first ss rs i l = after_middle [] ss rs i i (omega arith) l
 
-in_second : (ss rs : List Span) (i j : ℕ) → j ≡ length ss + i → i < length rs → span_behind j (ss ++ rs) ≡ span_behind i rs
-in_second ss rs i j e l = ap (λ z. span_behind j (ss ++ z)) (sym (append-nil rs)) ∙ behind_middle ss rs [] i j e l
+in_second : (ss rs : List Span) (i j : ℕ) → j ≡ length ss + i → i < length rs → span_after j (ss ++ rs) ≡ span_after i rs
+in_second ss rs i j e l = ap (λ z. span_after j (ss ++ z)) (sym (append-nil rs)) ∙ after_middle ss rs [] i j e l
 
 module _ (text : List ℕ) (lo mid hi : ℕ) (front back : List Token) (f : TokensIn text lo front mid) (b : TokensIn text mid back hi) where
   parted : IsParted (length (spans_in text front)) (spans_in text front ++ spans_in text back)
@@ -105,8 +105,8 @@ module _ (text : List ℕ) (lo mid hi : ℕ) (front back : List Token) (f : Toke
         let m = some_token text mid back hi b (omega (arith, x, y, l, e)) in
         let p = k.fills in
         let q = m.fills in
-        let o = behind_lies k.«from» k.to ss i x p.inside in
-        let u = behind_lies m.«from» m.to rs (j - n) (omega (arith, y, l, e)) q.inside in
+        let o = after_lies k.«from» k.to ss i x p.inside in
+        let u = after_lies m.«from» m.to rs (j - n) (omega (arith, y, l, e)) q.inside in
         let v = ap (λ z. z.stop) (in_first ss rs i x) in
         let w = ap (λ z. z.start) (in_second ss rs (j - n) j (omega (arith, y)) (omega (arith, y, l, e))) in
         omega (arith, o.ends, u.begins, k.ends, m.begins, v, w);
@@ -114,17 +114,17 @@ module _ (text : List ℕ) (lo mid hi : ℕ) (front back : List Token) (f : Toke
         let e = length-append ss rs in
         let m = some_token text mid back hi b (omega (arith, y, l, e)) in
         let q = m.fills in
-        let u = behind_lies m.«from» m.to rs (j - n) (omega (arith, y, l, e)) q.inside in
+        let u = after_lies m.«from» m.to rs (j - n) (omega (arith, y, l, e)) q.inside in
         let v = ap (λ z. z.start) (in_second ss rs 0 n (omega arith) (omega (arith, y, l, e))) in
         let w = ap (λ z. z.start) (in_second ss rs (j - n) j (omega (arith, y)) (omega (arith, y, l, e))) in
-        omega (arith, behind_first q, u.begins, v, w);
+        omega (arith, following_first q, u.begins, v, w);
     ends = λ i x.
         let k = some_token text lo front mid f (omega (arith, x)) in
         let p = k.fills in
-        let o = behind_lies k.«from» k.to ss i x p.inside in
+        let o = after_lies k.«from» k.to ss i x p.inside in
         let v = ap (λ z. z.stop) (in_first ss rs i x) in
         let w = ap (λ z. z.stop) (in_first ss rs (n - 1) (omega (arith, x))) in
-        omega (arith, o.ends, behind_last p (n - 1) (omega (arith, x)), v, w);
+        omega (arith, o.ends, following_last p (n - 1) (omega (arith, x)), v, w);
   }
     where
       ss : List Span
@@ -156,38 +156,38 @@ less_or_same (suc a) zero h = absurd (omega (arith, h))
 less_or_same (suc a) (suc b) h = elim (less_or_same a b (omega (arith, h))) [ inl x ↦ inl (omega (arith, x)) | inr x ↦ inr (ap suc x) ]
 
 -- a place of whole tokens, and any other
-clear_in_bytes : (n : ℕ) (ss : List Span) → ((i : ℕ) → i < length ss → (span_behind i ss).start ≤ (span_behind i ss).stop) → n ≡ length ss
-    → (s t : Stretch) → IsWithin 0 n s → IsWithin 0 n t → IsParted s.first ss → IsParted s.behind ss → Law.AreClear s t
+clear_in_bytes : (n : ℕ) (ss : List Span) → ((i : ℕ) → i < length ss → (span_after i ss).start ≤ (span_after i ss).stop) → n ≡ length ss
+    → (s t : Stretch) → IsWithin 0 n s → IsWithin 0 n t → IsParted s.first ss → IsParted s.following ss → Law.AreClear s t
     → AreClearSpans (span_of ss s) (span_of ss t)
 clear_in_bytes n ss runs e s t v w a b c =
     by (omega (arith, v.some, v.ends, e)) (omega (arith, w.some, w.ends, e)) (omega (arith, v.some, v.ends, e))
     (omega (arith, w.some, w.ends, e)) v.some w.some c
   where
     low : s.first < length ss → t.first < length ss → (t.first < s.first) ⊎ (t.first ≡ s.first)
-        → (span_behind t.first ss).start ≤ (span_behind s.first ss).start
+        → (span_after t.first ss).start ≤ (span_after s.first ss).start
     low f g (inl x) = let k = a.apart t.first s.first x (omega arith) f in let r = runs t.first g in omega (arith, k, r)
-    low f g (inr x) = omega (arith, ap (λ k. (span_behind k ss).start) x)
+    low f g (inr x) = omega (arith, ap (λ k. (span_after k ss).start) x)
 
-    high : t.behind - 1 < length ss → s.first < s.behind → (s.behind < t.behind) ⊎ (s.behind ≡ t.behind)
-        → (span_behind (s.behind - 1) ss).stop ≤ (span_behind (t.behind - 1) ss).stop
+    high : t.following - 1 < length ss → s.first < s.following → (s.following < t.following) ⊎ (s.following ≡ t.following)
+        → (span_after (s.following - 1) ss).stop ≤ (span_after (t.following - 1) ss).stop
     high g m (inl x) =
-        let k = b.apart (s.behind - 1) (t.behind - 1) (omega (arith, m)) (omega (arith, x)) g in
-        let r = runs (t.behind - 1) g in omega (arith, k, r)
-    high g m (inr x) = omega (arith, ap (λ k. (span_behind (k - 1) ss).stop) x)
+        let k = b.apart (s.following - 1) (t.following - 1) (omega (arith, m)) (omega (arith, x)) g in
+        let r = runs (t.following - 1) g in omega (arith, k, r)
+    high g m (inr x) = omega (arith, ap (λ k. (span_after (k - 1) ss).stop) x)
 
-    by : s.first < length ss → t.first < length ss → s.behind - 1 < length ss → t.behind - 1 < length ss → s.first < s.behind
-        → t.first < t.behind → Law.AreClear s t → AreClearSpans (span_of ss s) (span_of ss t)
-    by f g i j m o (Law.holds x y) = holds_it (a.begins t.first x g) (b.ends (t.behind - 1) (omega (arith, o, y)))
+    by : s.first < length ss → t.first < length ss → s.following - 1 < length ss → t.following - 1 < length ss → s.first < s.following
+        → t.first < t.following → Law.AreClear s t → AreClearSpans (span_of ss s) (span_of ss t)
+    by f g i j m o (Law.holds x y) = holds_it (a.begins t.first x g) (b.ends (t.following - 1) (omega (arith, o, y)))
     by f g i j m o (Law.is_held x y) =
-        held_by_it (low f g (less_or_same t.first s.first x)) (high j m (less_or_same s.behind t.behind y))
-    by f g i j m o (Law.before x) = ends_first (b.apart (s.behind - 1) t.first (omega (arith, m)) x g)
-    by f g i j m o (Law.behind x) = begins_behind (a.apart (t.behind - 1) s.first (omega (arith, o, x)) (omega arith) f)
+        held_by_it (low f g (less_or_same t.first s.first x)) (high j m (less_or_same s.following t.following y))
+    by f g i j m o (Law.before x) = ends_first (b.apart (s.following - 1) t.first (omega (arith, m)) x g)
+    by f g i j m o (Law.following x) = begins_after (a.apart (t.following - 1) s.first (omega (arith, o, x)) (omega arith) f)
 
 turned : {s t : Span} → AreClearSpans s t → AreClearSpans t s
 turned (holds_it a b) = held_by_it a b
 turned (held_by_it a b) = holds_it a b
-turned (ends_first a) = begins_behind a
-turned (begins_behind a) = ends_first a
+turned (ends_first a) = begins_after a
+turned (begins_after a) = ends_first a
 
 are_both : (lo hi : ℕ) (ps qs : List Stretch) → AreWithin lo hi ps → AreWithin lo hi qs → AreWithin lo hi (ps ++ qs)
 are_both lo hi [] qs h k = k
@@ -212,8 +212,8 @@ place_of ss (r ∷ rs) (further_on c) =
 
 line_is : (ss : List Span) (f : FormPlaces) → spans_in_line (line_of ss f) ≡ spans_of ss (places_in_line f)
 line_is ss f =
-    ap (λ z. z ++ spans_of ss f.suite) (sym (map-append (span_of ss) f.before f.behind))
-    ∙ sym (map-append (span_of ss) (f.before ++ f.behind) f.suite)
+    ap (λ z. z ++ spans_of ss f.suite) (sym (map-append (span_of ss) f.before f.following))
+    ∙ sym (map-append (span_of ss) (f.before ++ f.following) f.suite)
 
 line_laminar : {profile : Profile} {inside : Bool} {f : Form} (text : List ℕ) (lo : ℕ) (xs : List Token) (hi : ℕ)
     (d : F.FormAt profile inside (terminals_in xs) f) → TokensIn text lo xs hi → (p q : Span)
@@ -235,31 +235,31 @@ line_laminar {profile} {inside} {f} text lo xs hi d h p q c e =
     size : length (terminals_in xs) ≡ length ss
     size = sym (lengths text xs (are_sound text lo xs hi h))
 
-    runs : (i : ℕ) → i < length ss → (span_behind i ss).start ≤ (span_behind i ss).stop
+    runs : (i : ℕ) → i < length ss → (span_after i ss).start ≤ (span_after i ss).stop
     runs i l =
         let k = some_token text lo xs hi h (omega (arith, l)) in
         let g = k.fills in
-        let o = behind_lies k.«from» k.to ss i l g.inside in o.forward
+        let o = after_lies k.«from» k.to ss i l g.inside in o.forward
 
     one : (s : Stretch) → Law.Contains s rs → IsWithin 0 (length (terminals_in xs)) s
     one s c =
         let w = places_are_lawful.tokens profile inside (terminals_in xs) f d in
-        is_one rs (are_both 0 (length (terminals_in xs)) ((places_at d).before ++ (places_at d).behind) (places_at d).suite
-        (are_both 0 (length (terminals_in xs)) (places_at d).before (places_at d).behind w.0 w.1) w.2) c
+        is_one rs (are_both 0 (length (terminals_in xs)) ((places_at d).before ++ (places_at d).following) (places_at d).suite
+        (are_both 0 (length (terminals_in xs)) (places_at d).before (places_at d).following w.0 w.1) w.2) c
 
     whole : (s t : Stretch) → Law.Contains s rs → Law.Contains t rs → is_of_tokens xs s ≡ true
         → AreClearSpans (span_of ss s) (span_of ss t)
     whole s t c d0 e =
-        let w = and_parts (are_whole xs s.first) (are_whole xs s.behind) e in
+        let w = and_parts (are_whole xs s.first) (are_whole xs s.following) e in
         clear_in_bytes (length (terminals_in xs)) ss runs size s t (one s c) (one t d0) (is_parted text lo xs hi s.first h w.0)
-        (is_parted text lo xs hi s.behind h w.1) (places_are_lawful.apart profile inside (terminals_in xs) f d s t c d0)
+        (is_parted text lo xs hi s.following h w.1) (places_are_lawful.apart profile inside (terminals_in xs) f d s t c d0)
 
     plain : (s : Stretch) → Law.Contains s rs → has_fstring xs ≡ false → is_of_tokens xs s ≡ true
     plain s c e =
         let w = one s c in
         let sound = are_sound text lo xs hi h in
-        and_from (are_whole xs s.first) (are_whole xs s.behind) (plain_whole text xs sound e s.first (omega (arith, w.some, w.ends)))
-        (plain_whole text xs sound e s.behind w.ends)
+        and_from (are_whole xs s.first) (are_whole xs s.following) (plain_whole text xs sound e s.first (omega (arith, w.some, w.ends)))
+        (plain_whole text xs sound e s.following w.ends)
 
     as_given : (a : PlaceOf ss rs p) (b : PlaceOf ss rs q) → AreClearSpans (span_of ss a.place) (span_of ss b.place) → AreClearSpans p q
     as_given a b r = subst (λ z. AreClearSpans z q) (sym a.is) (subst (AreClearSpans (span_of ss a.place)) (sym b.is) r)

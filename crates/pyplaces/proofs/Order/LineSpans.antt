@@ -16,14 +16,14 @@ use Rattle.pyparse_marks.specs.Spans.{Span, span}
 use Rattle.pyparse_marks.specs.LineSpans.{offset, spans_of}
 use Rattle.pyparse_marks.specs.TokenSpans.{token_spans}
 use Rattle.pyparse_marks.proofs.Callers.Lines.{tokens_have_spans}
-use Rattle.pygrammar.specs.OpenStrings.{open_behind_all}
-use Rattle.pyplaces.specs.Stretches.{Stretch, span_behind, span_of}
+use Rattle.pygrammar.specs.OpenStrings.{open_after_all}
+use Rattle.pyplaces.specs.Stretches.{Stretch, span_after, span_of}
 use Rattle.pyplaces.specs.Laws.{IsWithin, AreWithin}
 use Rattle.pyplaces.specs.Stretches as Stretches
 use Rattle.pyplaces.specs.Spans.{LiesBetween, AllLieBetween}
 use Rattle.pyplaces.proofs.Order.TokenLines.{IsSound, AreSound, TokensIn, begin_of, end_of, are_sound}
 use Rattle.pyplaces.proofs.Order.Aligned.{terminals_in, cut}
-use Rattle.pyplaces.proofs.Order.Filling.{Fills, fills_both, between, behind_middle}
+use Rattle.pyplaces.proofs.Order.Filling.{Fills, fills_both, between, after_middle}
 use Rattle.pyplaces.proofs.Order.TokenWalks.{token_fills}
 
 abbrev pub spans_in : List ℕ → List Token → List Span
@@ -121,7 +121,7 @@ pub record Piece (text : List ℕ) (lo : ℕ) (ts : List Token) (hi : ℕ) (p q 
   pub size : length (spans_in text front) ≡ length p
 
 pub piece : (text : List ℕ) (lo : ℕ) (ts : List Token) (hi : ℕ) (p q : List Terminal) → TokensIn text lo ts hi
-    → open_behind_all [] p ≡ [] → terminals_in ts ≡ p ++ q → Piece text lo ts hi p q
+    → open_after_all [] p ≡ [] → terminals_in ts ≡ p ++ q → Piece text lo ts hi p q
 piece text lo ts hi p q h closes e =
     let c = cut ts (are_sound text lo ts hi h) p q closes e in
     let s = split_in text lo c.front c.back hi (subst (λ z. TokensIn text lo z hi) c.whole h) in
@@ -140,24 +140,24 @@ piece text lo ts hi p q h closes e =
 -- ---- Stretches of a part.
 
 -- a stretch of some terminals lies in the bytes that their spans fill
-pub lie : {lo hi at behind : ℕ} (before ss after : List Span) → Fills lo hi ss → length before ≡ at → behind ≡ at + length ss
-    → (s : Stretch) → IsWithin at behind s → LiesBetween lo hi (span_of (before ++ (ss ++ after)) s)
+pub lie : {lo hi at following : ℕ} (before ss after : List Span) → Fills lo hi ss → length before ≡ at → following ≡ at + length ss
+    → (s : Stretch) → IsWithin at following s → LiesBetween lo hi (span_of (before ++ (ss ++ after)) s)
 lie {lo} {hi} before ss after f e size s w =
     let whole = before ++ (ss ++ after) in
     let i = s.first - length before in
-    let j = (s.behind - 1) - length before in
+    let j = (s.following - 1) - length before in
     let b = w.begins in
     let m = w.some in
     let n = w.ends in
-    let first : span_behind s.first whole ≡ span_behind i ss =
-    behind_middle before ss after i s.first (omega (arith, e, b)) (omega (arith, e, size, b, m, n)) in
-    let last : span_behind (s.behind - 1) whole ≡ span_behind j ss =
-    behind_middle before ss after j (s.behind - 1) (omega (arith, e, b, m)) (omega (arith, e, size, b, m, n)) in
+    let first : span_after s.first whole ≡ span_after i ss =
+    after_middle before ss after i s.first (omega (arith, e, b)) (omega (arith, e, size, b, m, n)) in
+    let last : span_after (s.following - 1) whole ≡ span_after j ss =
+    after_middle before ss after j (s.following - 1) (omega (arith, e, b, m)) (omega (arith, e, size, b, m, n)) in
     let inner = between f i j (omega (arith, b, m)) (omega (arith, e, size, b, m, n)) in
-    subst (λ z. LiesBetween lo hi (span z.start (span_behind (s.behind - 1) whole).stop)) (sym first)
-    (subst (λ z. LiesBetween lo hi (span (span_behind i ss).start z.stop)) (sym last) inner)
+    subst (λ z. LiesBetween lo hi (span z.start (span_after (s.following - 1) whole).stop)) (sym first)
+    (subst (λ z. LiesBetween lo hi (span (span_after i ss).start z.stop)) (sym last) inner)
 
-pub all_lie : {lo hi at behind : ℕ} (before ss after : List Span) → Fills lo hi ss → length before ≡ at → behind ≡ at + length ss
-    → (rs : List Stretch) → AreWithin at behind rs → AllLieBetween lo hi (Stretches.spans_of (before ++ (ss ++ after)) rs)
+pub all_lie : {lo hi at following : ℕ} (before ss after : List Span) → Fills lo hi ss → length before ≡ at → following ≡ at + length ss
+    → (rs : List Stretch) → AreWithin at following rs → AllLieBetween lo hi (Stretches.spans_of (before ++ (ss ++ after)) rs)
 all_lie before ss after f e size [] w = tt
 all_lie before ss after f e size (s ∷ rs) w = (lie before ss after f e size s w.0, all_lie before ss after f e size rs w.1)

@@ -12,7 +12,7 @@ use Rattle.pytoken.specs.Tokens.{Token}
 use Rattle.pyparse_marks.specs.LineSpans.{line_spans}
 use Rattle.pygrammar.specs.Forms as F
 use Rattle.pygrammar.specs.Lines.{Line, Form, simple_form, decorator_form, header_form}
-use Rattle.pygrammar.specs.OpenStrings.{open_behind_all}
+use Rattle.pygrammar.specs.OpenStrings.{open_after_all}
 use Rattle.pygrammar.specs.Refusals.{Formed, formed_end, formed_line}
 use Rattle.pygrammar.proofs.Callers.OpenStrings.{header_closes, case_closes}
 use Rattle.pyplaces.specs.Stretches.{Span, span, Stretch, spans_of}
@@ -80,11 +80,11 @@ record SuiteIn (profile : Profile) (lo : ℕ) (f : Form) (ps : List Span) (hi : 
   order : AreInOrder lo (statement_spans profile (statements_in f) ps) hi
   rooted : SuiteRooted profile f ps
 
--- statements behind the colon of a header
-behind_colon : {profile : Profile} {us : List Terminal} {ss : List Stmt} (text : List ℕ) (lo : ℕ) (xs : List Token) (hi : ℕ)
-    (ts : List Terminal) (c : F.Simples profile us ss) → open_behind_all [] ts ≡ [] → terminals_in xs ≡ ts ++ (Op Sign.Colon ∷ us)
+-- statements after the colon of a header
+after_colon : {profile : Profile} {us : List Terminal} {ss : List Stmt} (text : List ℕ) (lo : ℕ) (xs : List Token) (hi : ℕ)
+    (ts : List Terminal) (c : F.Simples profile us ss) → open_after_all [] ts ≡ [] → terminals_in xs ≡ ts ++ (Op Sign.Colon ∷ us)
     → TokensIn text lo xs hi → SimplesIn profile lo ss (spans_of (spans_in text xs) (simples_places (1 + length ts) c)) hi
-behind_colon {profile} {us} {ss} text lo xs hi ts c closes is h =
+after_colon {profile} {us} {ss} text lo xs hi ts c closes is h =
     let r = piece text lo xs hi ts (Op Sign.Colon ∷ us) h closes is in
     let q = piece text r.mid r.back hi (Op Sign.Colon ∷ []) us r.in_back refl r.back_is in
     let front = spans_in text r.front in
@@ -111,11 +111,11 @@ suite_in text lo xs hi (F.other_line w (F.simple_statements c)) is h =
 suite_in text lo xs hi (F.other_line w (F.decorator_line p)) is h = record { order = forward text lo xs hi h; rooted = tt }
 suite_in text lo xs hi (F.other_line w (F.header_line p)) is h = record { order = forward text lo xs hi h; rooted = tt }
 suite_in text lo xs hi (F.other_line w (F.header_suite {ts = ts} p c)) is h =
-    let r = behind_colon text lo xs hi ts c (header_closes p []) is h in record { order = r.order; rooted = r.rooted }
+    let r = after_colon text lo xs hi ts c (header_closes p []) is h in record { order = r.order; rooted = r.rooted }
 suite_in text lo xs hi (F.other_line w (F.match_line form v p)) is h = record { order = forward text lo xs hi h; rooted = tt }
 suite_in text lo xs hi (F.case_alone w c) is h = record { order = forward text lo xs hi h; rooted = tt }
 suite_in text lo xs hi (F.case_suite {ts = ts} w c s) is h =
-    let r = behind_colon text lo xs hi ts s (case_closes c []) is h in record { order = r.order; rooted = r.rooted }
+    let r = after_colon text lo xs hi ts s (case_closes c []) is h in record { order = r.order; rooted = r.rooted }
 
 -- ---- A line.
 
@@ -123,7 +123,7 @@ suite_in text lo xs hi (F.case_suite {ts = ts} w c s) is h =
 pub record LineLies (profile : Profile) (f : Form) (z : LinePlaces) : Type 0 where
   pub forward : z.whole.start ≤ z.whole.stop
   pub before : AllLieBetween z.whole.start z.whole.stop z.before
-  pub behind : AllLieBetween z.whole.start z.whole.stop z.behind
+  pub following : AllLieBetween z.whole.start z.whole.stop z.following
   pub suite : AllLieBetween z.whole.start z.whole.stop z.suite
   pub order : AreInOrder z.whole.start (statement_spans profile (statements_in f) z.suite) z.whole.stop
   pub rooted : SuiteRooted profile f z.suite
@@ -145,12 +145,12 @@ line_lies {profile} {inside} {f} text lo xs hi d g sound =
     let lies : LineLies profile f (record {
       whole = span g.from g.to;
       before = spans_of ss (places_at d).before;
-      behind = spans_of ss (places_at d).behind;
+      following = spans_of ss (places_at d).following;
       suite = spans_of ss (places_at d).suite;
     }) = record {
       forward = ordered g.fills;
       before = all_in ss g.fills size (places_at d).before w.0;
-      behind = all_in ss g.fills size (places_at d).behind w.1;
+      following = all_in ss g.fills size (places_at d).following w.1;
       suite = all_in ss g.fills size (places_at d).suite w.2;
       order = s.order;
       rooted = s.rooted;
@@ -158,7 +158,7 @@ line_lies {profile} {inside} {f} text lo xs hi d g sound =
     subst (λ z. LineLies profile f (record {
       whole = z;
       before = spans_of ss (places_at d).before;
-      behind = spans_of ss (places_at d).behind;
+      following = spans_of ss (places_at d).following;
       suite = spans_of ss (places_at d).suite;
     })) (sym is) lies
 

@@ -23,7 +23,7 @@ use Rattle.pyplaces.specs.Nesting.{in_decorators, HoldsItsParts, AllHoldTheirPar
 use Rattle.pyplaces.proofs.Laws.Forms.{count_simple}
 use Rattle.pyplaces.proofs.Order.TokenLines.{TokensIn, forward}
 use Rattle.pyplaces.proofs.Order.Aligned.{terminals_in}
-use Rattle.pyplaces.proofs.Order.Filling.{ordered, behind_first, behind_last, behind_middle}
+use Rattle.pyplaces.proofs.Order.Filling.{ordered, following_first, following_last, after_middle}
 use Rattle.pyplaces.proofs.Order.LineSpans.{spans_in, Filled, filled, piece, all_lie}
 
 -- ---- The stretches of a simple statement.
@@ -49,7 +49,7 @@ held {profile} {ts} {s} at d =
     let e = snoc_last (field_places at d) r.fields (stretch at (at + length ts)) r.own r.are in
     record {
       parts = subst (λ z. AreWithin at (at + length ts) z) (sym e.0)
-          (subst (λ (z : Stretch). AreWithin z.first z.behind r.fields) (sym e.1) r.holds);
+          (subst (λ (z : Stretch). AreWithin z.first z.following r.fields) (sym e.1) r.holds);
       own = subst (IsWithin at (at + length ts)) (sym e.1) r.within;
     }
 
@@ -102,11 +102,11 @@ simple_in {profile} {ts} {s} text lo xs hi at before after d e size h =
     let own = span_of whole (stretch at (at + length ts)) in
     let count = count_simple {profile = profile} at d in
     let start : own.start ≡ f.from =
-    ap (λ z. z.start) (behind_middle before ss after 0 at (omega (arith, e)) (omega (arith, size, o.some))) ∙ behind_first f.fills in
+    ap (λ z. z.start) (after_middle before ss after 0 at (omega (arith, e)) (omega (arith, size, o.some))) ∙ following_first f.fills in
     let last = length ts - 1 in
     let stop : own.stop ≡ f.to =
-    ap (λ z. z.stop) (behind_middle before ss after last (at + length ts - 1) (omega (arith, e, o.some)) (omega (arith, size, o.some)))
-    ∙ behind_last f.fills last (omega (arith, size, o.some)) in
+    ap (λ z. z.stop) (after_middle before ss after last (at + length ts - 1) (omega (arith, e, o.some)) (omega (arith, size, o.some)))
+    ∙ following_last f.fills last (omega (arith, size, o.some)) in
     let parts = all_lie before ss after f.fills e (omega (arith, size)) (field_places at d) k.parts in
     let fields = spans_of whole (field_places at d) in
     let holds : AllLieBetween own.start own.stop fields =
@@ -150,7 +150,7 @@ none_in profile lo hi h = record { order = h; rooted = refl }
 pub three : (as_ bs cs ds : List Span) → as_ ++ (bs ++ (cs ++ ds)) ≡ (as_ ++ (bs ++ cs)) ++ ds
 three as_ bs cs ds = simp append_assoc refl
 
--- a statement and others behind it
+-- a statement and others after it
 pub more_in : {profile : Profile} {lo mid hi : ℕ} {s : Stmt} {ss : List Stmt} {ps qs : List Span} → StatementIn profile lo s ps mid
     → SimplesIn profile mid ss qs hi → SimplesIn profile lo (s ∷ ss) (ps ++ qs) hi
 more_in {profile} {lo} {mid} {hi} {s} {ss} {ps} {qs} a b =
@@ -171,7 +171,7 @@ more_in {profile} {lo} {mid} {hi} {s} {ss} {ps} {qs} a b =
       rooted = (subst (HoldsItsParts s) (sym front) r, subst (AllHoldTheirParts profile ss) (sym back) b.rooted);
     }
 
--- one statement, and perhaps tokens behind it
+-- one statement, and perhaps tokens after it
 pub one_in : {profile : Profile} {lo mid hi : ℕ} {s : Stmt} {ps : List Span} → StatementIn profile lo s ps mid → mid ≤ hi
     → SimplesIn profile lo (s ∷ []) ps hi
 one_in {profile} {lo} {mid} {hi} {s} {ps} a h =

@@ -1,4 +1,4 @@
--- Lines that lie one behind the other, with their counts; what a compound statement is over them, and statements one behind the other.
+-- Lines that lie one after the other, with their counts; what a compound statement is over them, and statements one after the other.
 --
 -- Carries: Given, split, head, compound, defined, both_in and their like, for Blocks. On: Lines, Counted.
 use Rattle.std.proofs.Common.{◌≡◌, refl, sym, ap, ◌∙◌, subst, ℕ, ◌+◌, ◌≤◌, arith, Bool, true, false, List, [], ◌∷◌, ◌++◌, append-nil}
@@ -85,7 +85,7 @@ ending_starts : (n : ℕ) (z : LinePlaces) (zs : List LinePlaces) → (ending n 
 ending_starts n z [] = refl
 ending_starts n z (w ∷ zs) = ending_starts n w zs
 
--- the first line, and those behind it, up to where the last of them ends
+-- the first line, and those after it, up to where the last of them ends
 pub record Head (profile : Profile) (lo : ℕ) (f : Form) (xs : List Line) (z : LinePlaces) (zs : List LinePlaces) (hi : ℕ) : Type 0 where
   pub line_lies : LineLies profile f z
   pub begins : lo ≤ z.whole.start
@@ -212,23 +212,23 @@ defined {profile} {lo} {mid} {hi} {es = es} {body = body} {dz = dz} {z = z} {zs 
     let inside = z.before ++ inner in
     let decorators = decorator_places dz in
     let first : In z.whole.start o.stop inside = wide (before_in l) (omega arith) h.last ⊕ p.lies in
-    let behind : In z.whole.start z.whole.stop z.behind = record { are = l.behind } in
-    let further : In z.whole.start o.stop z.behind = wide behind (omega arith) h.last in
+    let following : In z.whole.start z.whole.stop z.following = record { are = l.following } in
+    let further : In z.whole.start o.stop z.following = wide following (omega arith) h.last in
     let beside : In lo mid decorators = decorators_lie g.lie in
     let apart : In 0 z.whole.start decorators = wide beside (omega arith) h.begins in
     let parts = first ⊕ further in
     let c = decorators_count d g.counted in
-    let are : definition_places dz (z ∷ zs) b ≡ inside ++ (decorators ++ (z.behind ++ own z zs)) =
-    definition_is dz z zs b ∙ sym (append_assoc z.before inner (decorators ++ (z.behind ++ own z zs))) in
+    let are : definition_places dz (z ∷ zs) b ≡ inside ++ (decorators ++ (z.following ++ own z zs)) =
+    definition_is dz z zs b ∙ sym (append_assoc z.before inner (decorators ++ (z.following ++ own z zs))) in
     let root : HoldsItsParts s (definition_places dz (z ∷ zs) b) = record {
       inside = inside;
       beside = decorators;
-      further = z.behind;
+      further = z.following;
       own = o;
       are = are;
       decorators = c.is ∙ in_definition es head body;
       forward = omega (arith, h.start, h.last, l.forward);
-      holds = subst (λ n. AllLieBetween n o.stop (inside ++ z.behind)) (sym h.start) parts.are;
+      holds = subst (λ n. AllLieBetween n o.stop (inside ++ z.following)) (sym h.start) parts.are;
       apart = subst (λ n. AllLieBetween 0 n decorators) (sym h.start) apart.are;
     } in
     let a : StatementIn profile lo s (definition_places dz (z ∷ zs) b) hi =
@@ -245,7 +245,7 @@ defined {profile} {lo} {mid} {hi} {es = es} {body = body} {dz = dz} {z = z} {zs 
       inside = p.inside;
     }
 
--- ---- Statements one behind the other.
+-- ---- Statements one after the other.
 
 pub order_higher : (lo : ℕ) (ps : List Span) (hi high : ℕ) → hi ≤ high → AreInOrder lo ps hi → AreInOrder lo ps high
 order_higher lo [] hi high a h = omega (arith, a, h)

@@ -60,7 +60,7 @@ module _ (lo hi : ℕ) (first : Span) where
   single_passes : Passes lo hi first past_single
   single_passes k t w f a = (fine_over lo hi first (bytes_in t) w f a, refl)
 
-  -- inside an f-string that has a cut, behind its first span
+  -- inside an f-string that has a cut, after its first span
   inside_fine : (token : Kind → List ℕ → Walk → Walk) → Passes lo hi first token → (is_nested : Bool) (t : List ℕ) (w : Walk)
       (ps : List BodyPart) → parts_of is_nested t ≡ Some ps → lo ≤ w.at → w.at + bytes_in t ≤ hi
       → Fine lo hi first (put (span w.at (w.at + bytes_in t)) w)
@@ -79,13 +79,13 @@ module _ (lo hi : ℕ) (first : Span) where
         at = record { before = o.opening; is = o.is; here = omega (arith, o.size) };
       } in
       let ended = past_body_parts (past_expression token) (around t w) ps begun in
-      let behind = body_stands lo hi first t o.closing w.at low high (past_expression token)
+      let following = body_stands lo hi first t o.closing w.at low high (past_expression token)
       (λ x n u g b c. expression_fine lo hi first token passes x n u g b c) m (body_of t) ps
       (cut_of_sound m (body_of t) ps is) begun stands in
-      let there = behind.at in
+      let there = following.at in
       let all : bytes_in t ≡ bytes_in there.before + bytes_in o.closing =
       ap bytes_in there.is ∙ bytes_both there.before o.closing in (
-        fine_put lo hi first whole ended behind.fine low (omega (arith, there.here)) (omega (arith, there.here, all)) high,
+        fine_put lo hi first whole ended following.fine low (omega (arith, there.here)) (omega (arith, there.here, all)) high,
         omega (arith, there.here, all),
       )
 

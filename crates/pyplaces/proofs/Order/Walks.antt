@@ -26,7 +26,7 @@ pub record Fine (lo hi : ℕ) (first : Span) (w : Walk) : Type 0 where
   pub rises : Rises w.spans
 
 module _ (lo hi : ℕ) (first : Span) where
-  -- one span more, which begins here or before, and ends here or behind
+  -- one span more, which begins here or before, and ends here or after
   pub fine_put : (s : Span) (w : Walk) → Fine lo hi first w → lo ≤ s.start → s.start ≤ w.at → w.at ≤ s.stop → s.stop ≤ hi
       → Fine lo hi first (put s w)
   fine_put s w f a b c d = record {
@@ -85,7 +85,7 @@ module _ (lo hi : ℕ) (first : Span) where
       one true a = (fine_on (w.at + bytes_in x.text) w f (omega arith) a, refl)
       one false a = passes (kind_of x.«class» true) x.text w f a
 
-  -- the expression of a field, behind which one moves on, and there is one byte more at least
+  -- the expression of a field, after which one moves on, and there is one byte more at least
   pub expression_fine : (token : Kind → List ℕ → Walk → Walk) → Passes token → (t : List ℕ) (n : ℕ) (w : Walk) → Fine lo hi first w
       → w.at + (1 + bytes_in t) ≤ n → n < hi → Fine lo hi first (moved n (past_expression token t w))
   unfolding past_expression

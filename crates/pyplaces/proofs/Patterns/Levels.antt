@@ -21,14 +21,14 @@ use Rattle.pyplaces.specs.PlacedPatterns.{PlacedLiteral, PlacedClass, PlacedPatt
 use Rattle.pyplaces.proofs.Fronts.{nothing, sign, both, front_of, from, built, ◌⊕◌, own}
 
 -- the next level
-pub placed_pattern_next : {i r : List Terminal} {at behind : ℕ} {ps : List Stretch} {l : PatternLevel} {a : Pattern}
-    → PlacedPattern (below_pattern l) i at a r behind ps → PlacedPattern l i at a r behind ps
+pub placed_pattern_next : {i r : List Terminal} {at following : ℕ} {ps : List Stretch} {l : PatternLevel} {a : Pattern}
+    → PlacedPattern (below_pattern l) i at a r following ps → PlacedPattern l i at a r following ps
 placed_pattern_next p = built (front_of p) (P.next p.derived) p.places_are
 
-pub placed_open_sequence : {i r s u : List Terminal} {at m behind : ℕ} {ps : List Stretch} {a : Pattern} {es : List PatternEntry}
+pub placed_open_sequence : {i r s u : List Terminal} {at m following : ℕ} {ps : List Stretch} {a : Pattern} {es : List PatternEntry}
     {fs : List E.EntryPlaces}
-    → PlacedPattern StarPattern i at a r m ps → r ≡ Op Comma ∷ s → PlacedEntries Element s (m + 1) es u behind fs
-    → PlacedPattern Patterns i at (MatchSequence (a_pattern a (elements es))) u behind (ps ++ (E.alone fs ++ (stretch at behind ∷ [])))
+    → PlacedPattern StarPattern i at a r m ps → r ≡ Op Comma ∷ s → PlacedEntries Element s (m + 1) es u following fs
+    → PlacedPattern Patterns i at (MatchSequence (a_pattern a (elements es))) u following (ps ++ (E.alone fs ++ (stretch at following ∷ [])))
 placed_open_sequence p h c = built (both (front_of p) (sign h (front_of c))) (P.open_sequence p.derived c.derived)
     (p.places_are ⊕ ap E.alone (from c (omega (arith, p.ends))) ⊕ own (omega (arith, p.ends, c.ends)))
 
@@ -42,15 +42,15 @@ pub placed_as_name : {x : Spelled} {i r s u : List Terminal} {at m : ℕ} {ps : 
 placed_as_name {x = x} p h k q = built (both (front_of p) (sign h (sign k nothing))) (P.as_name x p.derived q)
     (p.places_are ⊕ own (omega (arith, p.ends)))
 
-pub placed_alternatives : {i r s u : List Terminal} {at m behind : ℕ} {ps qs : List Stretch} {a : Pattern} {xs : List Pattern}
-    → PlacedPattern ClosedPattern i at a r m ps → r ≡ Op VBar ∷ s → PlacedAlternatives s (m + 1) xs u behind qs
-    → PlacedPattern OrPattern i at (MatchOr (patterns (a ∷ xs))) u behind (ps ++ (qs ++ (stretch at behind ∷ [])))
+pub placed_alternatives : {i r s u : List Terminal} {at m following : ℕ} {ps qs : List Stretch} {a : Pattern} {xs : List Pattern}
+    → PlacedPattern ClosedPattern i at a r m ps → r ≡ Op VBar ∷ s → PlacedAlternatives s (m + 1) xs u following qs
+    → PlacedPattern OrPattern i at (MatchOr (patterns (a ∷ xs))) u following (ps ++ (qs ++ (stretch at following ∷ [])))
 placed_alternatives p h c = built (both (front_of p) (sign h (front_of c))) (P.alternatives p.derived c.derived)
     (p.places_are ⊕ from c (omega (arith, p.ends)) ⊕ own (omega (arith, p.ends, c.ends)))
 
 -- ---- Closed patterns.
-pub placed_literal : {i r : List Terminal} {at behind : ℕ} {e : Expr} {ps : List Stretch} → PlacedLiteral i at e r behind ps
-    → PlacedPattern ClosedPattern i at (MatchValue e) r behind (ps ++ (stretch at behind ∷ []))
+pub placed_literal : {i r : List Terminal} {at following : ℕ} {e : Expr} {ps : List Stretch} → PlacedLiteral i at e r following ps
+    → PlacedPattern ClosedPattern i at (MatchValue e) r following (ps ++ (stretch at following ∷ []))
 placed_literal p = built (front_of p) (P.literal p.derived) (p.places_are ⊕ own p.ends)
 
 pub placed_singleton : {t : Terminal} {i r : List Terminal} {at : ℕ} {y : Values.Value} → singleton_word t ≡ Some y → i ≡ t ∷ r

@@ -18,13 +18,13 @@ use Rattle.pyplaces.proofs.Fronts.{nothing, sign, signs, both, front_of, from, b
 use Rattle.pyplaces.proofs.Loops.{Grows, grows_turn, grows_end}
 
 -- ---- One entry.
-pub placed_element : {i r : List Terminal} {at behind : ℕ} {ps : List Stretch} {a : Pattern} → PlacedPattern StarPattern i at a r behind ps
-    → PlacedEntry Element i at (Alone a) r behind (E.Alone ps)
+pub placed_element : {i r : List Terminal} {at following : ℕ} {ps : List Stretch} {a : Pattern} → PlacedPattern StarPattern i at a r following ps
+    → PlacedEntry Element i at (Alone a) r following (E.Alone ps)
 placed_element p = built (front_of p) (P.element p.derived) (ap E.Alone p.places_are)
 
-pub placed_key_pattern : {i r s u : List Terminal} {at m behind : ℕ} {f : Expr} {ps qs : List Stretch} {a : Pattern}
-    → PlacedKey i at f r m ps → r ≡ Op Colon ∷ s → PlacedPattern AsPattern s (m + 1) a u behind qs
-    → PlacedEntry KeyPattern i at (Keyed f a) u behind (E.Keyed ps qs)
+pub placed_key_pattern : {i r s u : List Terminal} {at m following : ℕ} {f : Expr} {ps qs : List Stretch} {a : Pattern}
+    → PlacedKey i at f r m ps → r ≡ Op Colon ∷ s → PlacedPattern AsPattern s (m + 1) a u following qs
+    → PlacedEntry KeyPattern i at (Keyed f a) u following (E.Keyed ps qs)
 placed_key_pattern p h q = built (both (front_of p) (sign h (front_of q))) (P.key_pattern p.derived q.derived)
     (entry E.Keyed p.places_are (from q (omega (arith, p.ends))))
 
@@ -32,27 +32,27 @@ pub placed_rest : {x : Spelled} {i r s : List Terminal} {at : ℕ} → is_wildca
     → PlacedEntry KeyPattern i at (Rest x.form) s (at + 1 + 1) E.Rest
 placed_rest q h k = built (sign h (sign k nothing)) (P.rest q) refl
 
-pub placed_class_argument : {i r : List Terminal} {at behind : ℕ} {ps : List Stretch} {a : Pattern}
-    → PlacedPattern AsPattern i at a r behind ps → PlacedEntry ClassArgument i at (Alone a) r behind (E.Alone ps)
+pub placed_class_argument : {i r : List Terminal} {at following : ℕ} {ps : List Stretch} {a : Pattern}
+    → PlacedPattern AsPattern i at a r following ps → PlacedEntry ClassArgument i at (Alone a) r following (E.Alone ps)
 placed_class_argument p = built (front_of p) (P.argument p.derived) (ap E.Alone p.places_are)
 
-pub placed_named_argument : {x : Spelled} {i r s : List Terminal} {at behind : ℕ} {ps : List Stretch} {a : Pattern}
-    → i ≡ Ident x ∷ (Op Equal ∷ r) → PlacedPattern AsPattern r (at + 2) a s behind ps
-    → PlacedEntry ClassArgument i at (Named x.form a) s behind (E.Named ps)
+pub placed_named_argument : {x : Spelled} {i r s : List Terminal} {at following : ℕ} {ps : List Stretch} {a : Pattern}
+    → i ≡ Ident x ∷ (Op Equal ∷ r) → PlacedPattern AsPattern r (at + 2) a s following ps
+    → PlacedEntry ClassArgument i at (Named x.form a) s following (E.Named ps)
 placed_named_argument h p = built (signs h (front_of p)) (P.named_argument p.derived) (ap E.Named (from p (omega arith)))
 
--- ---- Lists of them: a turn of the loop begins behind a comma.
+-- ---- Lists of them: a turn of the loop begins after a comma.
 pub placed_no_entry : {r : List Terminal} {at : ℕ} {j : PatternItem} → PlacedEntries j r at [] r at []
 placed_no_entry = built nothing P.no_entry refl
 
-pub placed_last_entry : {i r : List Terminal} {at behind : ℕ} {j : PatternItem} {e : PatternEntry} {p : E.EntryPlaces}
-    → PlacedEntry j i at e r behind p → PlacedEntries j i at (e ∷ []) r behind (p ∷ [])
+pub placed_last_entry : {i r : List Terminal} {at following : ℕ} {j : PatternItem} {e : PatternEntry} {p : E.EntryPlaces}
+    → PlacedEntry j i at e r following p → PlacedEntries j i at (e ∷ []) r following (p ∷ [])
 placed_last_entry d = built (front_of d) (P.last_entry d.derived) (ap (λ z. z ∷ []) d.places_are)
 
-pub placed_entry : {i r s u : List Terminal} {at m behind : ℕ} {j : PatternItem} {e : PatternEntry} {es : List PatternEntry}
+pub placed_entry : {i r s u : List Terminal} {at m following : ℕ} {j : PatternItem} {e : PatternEntry} {es : List PatternEntry}
     {ps : List E.EntryPlaces} {p : E.EntryPlaces}
-    → PlacedEntry j i at e r m p → r ≡ Op Comma ∷ s → PlacedEntries j s (m + 1) es u behind ps
-    → PlacedEntries j i at (e ∷ es) u behind (p ∷ ps)
+    → PlacedEntry j i at e r m p → r ≡ Op Comma ∷ s → PlacedEntries j s (m + 1) es u following ps
+    → PlacedEntries j i at (e ∷ es) u following (p ∷ ps)
 placed_entry d h c = built (both (front_of d) (sign h (front_of c))) (P.entry d.derived c.derived)
     (cons d.places_are (from c (omega (arith, d.ends))))
 
@@ -71,9 +71,9 @@ pub entries_last : {i r s : List Terminal} {at m n : ℕ} {j : PatternItem} {e :
     → Grows (PlacedEntries j) i at es r m ps → PlacedEntry j r m e s n p → PlacedEntries j i at (es ++ (e ∷ [])) s n (ps ++ (p ∷ []))
 entries_last {e = e} g d = g.so (e ∷ []) _ _ _ (placed_last_entry d)
 
-pub placed_alternative : {i r s u : List Terminal} {at m behind : ℕ} {ps qs : List Stretch} {a : Pattern} {xs : List Pattern}
-    → PlacedPattern ClosedPattern i at a r m ps → r ≡ Op VBar ∷ s → PlacedAlternatives s (m + 1) xs u behind qs
-    → PlacedAlternatives i at (a ∷ xs) u behind (ps ++ qs)
+pub placed_alternative : {i r s u : List Terminal} {at m following : ℕ} {ps qs : List Stretch} {a : Pattern} {xs : List Pattern}
+    → PlacedPattern ClosedPattern i at a r m ps → r ≡ Op VBar ∷ s → PlacedAlternatives s (m + 1) xs u following qs
+    → PlacedAlternatives i at (a ∷ xs) u following (ps ++ qs)
 placed_alternative p h c = built (both (front_of p) (sign h (front_of c))) (P.alternative p.derived c.derived)
     (p.places_are ⊕ from c (omega (arith, p.ends)))
 

@@ -28,8 +28,8 @@ pub placed_negative : {i r s : List Terminal} {at : ℕ} {y : Values.Value} → 
     (stretch (at + 1) (at + 1 + 1) ∷ (stretch at (at + 1 + 1) ∷ []))
 placed_negative h k = built (sign h (sign k nothing)) P.negative (reaches (omega arith) (omega arith) ⊕ own (omega arith))
 
-pub placed_number : {i r : List Terminal} {at behind : ℕ} {e : Expr} {y : Values.Value} {ps : List Stretch}
-    → PlacedNumber y i at e r behind ps → PlacedLiteral i at e r behind ps
+pub placed_number : {i r : List Terminal} {at following : ℕ} {e : Expr} {y : Values.Value} {ps : List Stretch}
+    → PlacedNumber y i at e r following ps → PlacedLiteral i at e r following ps
 placed_number p = built (front_of p) (P.number p.derived) p.places_are
 
 pub placed_complex : {t : Terminal} {o : Operator} {i r s u : List Terminal} {at m : ℕ} {a : Expr} {y z : Values.Value} {ps : List Stretch}
@@ -50,12 +50,12 @@ pub placed_dot_name : {x : Spelled} {i r s u : List Terminal} {at m : ℕ} {e : 
 placed_dot_name {x = x} p h k = built (both (front_of p) (sign h (sign k nothing))) (P.dot_name x p.derived)
     (p.places_are ⊕ own (omega (arith, p.ends)))
 
-pub placed_class : {i r : List Terminal} {at behind : ℕ} {e : Expr} {ps : List Stretch} {f : Identifier} → PlacedDotted f i at e r behind ps
-    → is_wildcard f ≡ false → PlacedClass i at e r behind ps
+pub placed_class : {i r : List Terminal} {at following : ℕ} {e : Expr} {ps : List Stretch} {f : Identifier} → PlacedDotted f i at e r following ps
+    → is_wildcard f ≡ false → PlacedClass i at e r following ps
 placed_class p h = built (front_of p) (P.class_name p.derived h) p.places_are
 
-pub placed_literal_key : {i r : List Terminal} {at behind : ℕ} {e : Expr} {ps : List Stretch} → PlacedLiteral i at e r behind ps
-    → PlacedKey i at e r behind ps
+pub placed_literal_key : {i r : List Terminal} {at following : ℕ} {e : Expr} {ps : List Stretch} → PlacedLiteral i at e r following ps
+    → PlacedKey i at e r following ps
 placed_literal_key p = built (front_of p) (P.literal_key p.derived) p.places_are
 
 pub placed_singleton_key : {t : Terminal} {i r : List Terminal} {at : ℕ} {y : Values.Value} → singleton_word t ≡ Some y → i ≡ t ∷ r

@@ -1,4 +1,4 @@
--- Brackets that close: behind an expression as many are open as before it.
+-- Brackets that close: after an expression as many are open as before it.
 --
 -- Carries: walk, Balanced, balanced and the parts' lemmas, for FirstBracket, WithForms.
 use Rattle.std.proofs.Common.{◌≡◌, refl, ap, ◌∙◌, ℕ, zero, suc, List, [], ◌∷◌, ◌++◌, append_assoc, map, Option, Some, None, Bool}
@@ -29,7 +29,7 @@ abbrev closing : ℕ → List Terminal → (ℕ → List Terminal) → List Term
 closing zero r f = r
 closing (suc n) r f = f n
 
--- what stands behind the bracket that closes, where so many others are open in front of it
+-- what stands after the bracket that closes, where so many others are open in front of it
 abbrev pub walk : List Terminal → ℕ → List Terminal
 walk [] n = []
 walk (Op LPar ∷ r) n = walk r (suc n)
@@ -70,12 +70,12 @@ square ts p r n = ap (λ z. walk z (suc n)) (append_assoc ts (Op RSqb ∷ []) r)
 curly : (ts : List Terminal) → Balanced ts → Balanced (Op LBrace ∷ (ts ++ (Op RBrace ∷ [])))
 curly ts p r n = ap (λ z. walk z (suc n)) (append_assoc ts (Op RBrace ∷ []) r) ∙ p (Op RBrace ∷ r) (suc n)
 
--- with the brackets behind the second or third part
+-- with the brackets after the second or third part
 pub shut : (ts us : List Terminal) (s : Terminal) → ((ts ++ us) ++ (s ∷ [])) ≡ (ts ++ (us ++ (s ∷ [])))
 shut ts us s = append_assoc ts us (s ∷ [])
 
-pub shut_behind : (ts us : List Terminal) (c s : Terminal) → ((ts ++ (c ∷ us)) ++ (s ∷ [])) ≡ (ts ++ (c ∷ (us ++ (s ∷ []))))
-shut_behind ts us c s = append_assoc ts (c ∷ us) (s ∷ [])
+pub shut_after : (ts us : List Terminal) (c s : Terminal) → ((ts ++ (c ∷ us)) ++ (s ∷ [])) ≡ (ts ++ (c ∷ (us ++ (s ∷ []))))
+shut_after ts us c s = append_assoc ts (c ∷ us) (s ∷ [])
 
 shut_three : (ts us vs : List Terminal) (c s : Terminal)
     → ((ts ++ (c ∷ (us ++ vs))) ++ (s ∷ [])) ≡ (ts ++ (c ∷ (us ++ (vs ++ (s ∷ [])))))
@@ -183,7 +183,7 @@ mutual
   balanced (G.group {ts = ts} p) = round ts (balanced p)
   balanced (G.yield_group {ts = ts} p) = round (Word Key.Yield ∷ ts) (balanced_yields p)
   balanced G.empty_tuple = λ r n. refl
-  balanced (G.tuple {ts = ts} {us = us} p c) = as_shape (ap (λ z. Op LPar ∷ z) (shut_behind ts us (Op Comma) (Op RPar)))
+  balanced (G.tuple {ts = ts} {us = us} p c) = as_shape (ap (λ z. Op LPar ∷ z) (shut_after ts us (Op Comma) (Op RPar)))
       (round (ts ++ (Op Comma ∷ us)) (both ts (Op Comma ∷ us) (balanced p) (balanced_listing c)))
   balanced (G.generator_group {ts = ts} {us = us} p c) = as_shape (ap (λ z. Op LPar ∷ z) (shut ts us (Op RPar)))
       (round (ts ++ us) (both ts us (balanced p) (balanced_comps c)))

@@ -26,8 +26,8 @@ headed {l} {g = g} {xs = xs} h k = ap (λ y. line l y ∷ xs) h ∙ ap (λ ys. l
 pub both : {A : Type 0} {a b c d : List A} → a ≡ b → c ≡ d → a ++ c ≡ b ++ d
 both {a = a} {d = d} h k = ap (λ z. a ++ z) k ∙ ap (λ z. z ++ d) h
 
-pub behind : {xs us r q : List Line} → xs ≡ us → xs ++ r ≡ us ++ q → r ≡ q
-behind {xs} {us} {r} {q} h e = append_cancel_left xs r q (e ∙ ap (λ z. z ++ q) (sym h))
+pub following : {xs us r q : List Line} → xs ≡ us → xs ++ r ≡ us ++ q → r ≡ q
+following {xs} {us} {r} {q} h e = append_cancel_left xs r q (e ∙ ap (λ z. z ++ q) (sym h))
 
 pub regroup : (xs ys r us vs q : List Line) → (xs ++ ys) ++ r ≡ (us ++ vs) ++ q → xs ++ (ys ++ r) ≡ us ++ (vs ++ q)
 regroup xs ys r us vs q e = sym (append_assoc xs ys r) ∙ (e ∙ append_assoc us vs q)
@@ -106,7 +106,7 @@ pub cases_stop : {l : ℕ} {xs : List Line} {cs : List Case} {k : ℕ} (c : B.Ca
 cases_stop B.no_case h = at_end
 cases_stop (B.case_clause b c) h = at_line (omega (arith, h))
 
--- the clauses of a `try` behind its handlers, and all of them
+-- the clauses of a `try` after its handlers, and all of them
 pub last_stop : {l : ℕ} {xs ys : List Line} {ss ts : List Stmt} {k : ℕ} (o : B.Otherwise l xs ss) (f : B.Ending l ys ts)
     → 4 * l + 2 < k → Stops k (xs ++ ys)
 last_stop o f h = stops_both (otherwise_stops o h) (ending_stops f (omega (arith, h)))

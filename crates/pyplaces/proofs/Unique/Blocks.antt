@@ -10,7 +10,7 @@ use Rattle.pyplaces.specs.Stretches.{Span}
 use Rattle.pyplaces.specs.BlockPlaces.{LinePlaces, own, decorator_places, block_places, statement_places, definition_places}
 use Rattle.pyplaces.specs.BlockPlaces.{final_places, body_places, alternative_places, otherwise_places, handlers_places, cases_places}
 use Rattle.pyplaces.specs.BlockPlaces.{ending_places}
-use Rattle.pyplaces.proofs.Unique.BlockLines.{rests, forms, suites, headed, both, behind, regroup, Stops, at_end, at_line, later}
+use Rattle.pyplaces.proofs.Unique.BlockLines.{rests, forms, suites, headed, both, following, regroup, Stops, at_end, at_line, later}
 use Rattle.pyplaces.proofs.Unique.BlockLines.{stops_both, unended, no_statement, block_stops, alternative_stops, otherwise_stops}
 use Rattle.pyplaces.proofs.Unique.BlockLines.{ending_stops, handlers_stop, cases_stop, last_stop, clauses_stop, no_elif, no_final, first}
 use Rattle.pyplaces.proofs.Unique.BlockLines.{turn_of, first_is, decorators_end}
@@ -25,7 +25,7 @@ record Agree (xs us : List Line) (p q : Places) : Type 0 where
   same : xs ≡ us
   places : (zs : List LinePlaces) → p zs ≡ q zs
 
--- the same of bodies, behind the lines of their headers
+-- the same of bodies, after the lines of their headers
 record BodiesAgree (xs us : List Line) (p q : LinePlaces → Places) : Type 0 where
   same : xs ≡ us
   places : (z : LinePlaces) (zs : List LinePlaces) → p z zs ≡ q z zs
@@ -43,7 +43,7 @@ each : (p q : Places) → p [] ≡ q [] → ((z : LinePlaces) (zs : List LinePla
 each p q e n [] = e
 each p q e n (z ∷ zs) = n z zs
 
--- by a first line and those behind it
+-- by a first line and those after it
 opened : {l : ℕ} {f g : Form} {xs us : List Line} {p q : Places} → f ≡ g → xs ≡ us → p [] ≡ q []
     → ((z : LinePlaces) (zs : List LinePlaces) → p (z ∷ zs) ≡ q (z ∷ zs)) → Agree (line l f ∷ xs) (line l g ∷ us) p q
 opened {p = p} {q = q} h k e n = record { same = headed h k; places = each p q e n }
@@ -57,7 +57,7 @@ undefined ds (B.indented b) = refl
 
 definition_is : {l : ℕ} {suite : Option (List Stmt)} {xs : List Line} {ss : List Stmt} (ds : List LinePlaces) (z : LinePlaces)
     (zs : List LinePlaces) (b : B.Body l suite xs ss) →
-    definition_places ds (z ∷ zs) b ≡ z.before ++ (body_places z zs b ++ (decorator_places ds ++ (z.behind ++ own z zs)))
+    definition_places ds (z ∷ zs) b ≡ z.before ++ (body_places z zs b ++ (decorator_places ds ++ (z.following ++ own z zs)))
 definition_is ds z zs B.inline = refl
 definition_is ds z zs (B.indented b) = refl
 
@@ -100,7 +100,7 @@ mutual
       let m = statements_agree s t (sym (first_is s (ys ++ r)) ∙ (ap first k ∙ first_is t (vs ++ q))) k
       (stops_both (block_stops b (omega arith)) (later (omega arith) f))
       (stops_both (block_stops c (omega arith)) (later (omega arith) g)) in
-      let n = blocks_agree b c (behind m.same k) f g in
+      let n = blocks_agree b c (following m.same k) f g in
       record { same = both m.same n.same; places = λ zs. both (fronts m.same m.places zs) (backs m.same n.places zs) }
 
   statements_agree : {l : ℕ} {xs : List Line} {ss : List Stmt} {us : List Line} {ts : List Stmt} {r q : List Line}
@@ -112,7 +112,7 @@ mutual
       let k = regroup xs ys r us vs q (rests e) in
       let m = bodies_agree b c (suites (forms e)) k (stops_both (alternative_stops a (omega arith)) (later (omega arith) f))
       (stops_both (alternative_stops d (omega arith)) (later (omega arith) g)) in
-      let n = alternatives_agree a d (behind m.same k) f g in
+      let n = alternatives_agree a d (following m.same k) f g in
       opened (forms e) (both m.same n.same) refl
       (λ z zs. both refl (both (fronts m.same (m.places z) zs) (both (backs m.same n.places zs) refl)))
   statements_agree (B.if_statement b a) _ i e f g = absurd (omega (arith, i))
@@ -120,7 +120,7 @@ mutual
       let k = regroup xs ys r us vs q (rests e) in
       let m = bodies_agree b c (suites (forms e)) k (stops_both (otherwise_stops o (omega arith)) (later (omega arith) f))
       (stops_both (otherwise_stops d (omega arith)) (later (omega arith) g)) in
-      let n = others_agree o d (behind m.same k) (later (omega arith) f) (later (omega arith) g) in
+      let n = others_agree o d (following m.same k) (later (omega arith) f) (later (omega arith) g) in
       opened (forms e) (both m.same n.same) refl
       (λ z zs. both refl (both (fronts m.same (m.places z) zs) (both (backs m.same n.places zs) refl)))
   statements_agree (B.loop_statement b o) _ i e f g = absurd (omega (arith, i))
@@ -132,7 +132,7 @@ mutual
       i e f g =
       let k = regroup xs (line l (header_form finally_header s) ∷ ys) r us (line l (header_form finally_header t) ∷ vs) q (rests e) in
       let m = bodies_agree b c (suites (forms e)) k (at_line (omega arith)) (at_line (omega arith)) in
-      let w = behind m.same k in
+      let w = following m.same k in
       let n = bodies_agree o d (suites (forms w)) (rests w) (later (omega arith) f) (later (omega arith) g) in
       opened (forms e) (both m.same (headed (forms w) n.same)) refl
       (λ z zs. both (fronts m.same (m.places z) zs) (both (backs m.same (finals_agree o d n.places) zs) refl))
@@ -141,26 +141,26 @@ mutual
       let k = regroup xs (line l (header_form finally_header s) ∷ ys) r us (vs ++ (ws ++ js)) q (rests e) in
       let m = bodies_agree b c (suites (forms e)) k (at_line (omega arith))
       (stops_both (clauses_stop h p d (omega arith)) (later (omega arith) g)) in
-      absurd (no_final h ((ws ++ js) ++ q) (behind m.same k ∙ append_assoc vs (ws ++ js) q))
+      absurd (no_final h ((ws ++ js) ++ q) (following m.same k ∙ append_assoc vs (ws ++ js) q))
   statements_agree (B.try_finally b o) _ i e f g = absurd (omega (arith, i))
   statements_agree {l} {r = r} {q = q} (B.try_except {xs = xs} {ys = ys} {zs = ws} {ws = js} b h p o)
       (B.try_finally {last = t} {xs = us} {ys = vs} c d) i e f g =
       let k = regroup xs (ys ++ (ws ++ js)) r us (line l (header_form finally_header t) ∷ vs) q (rests e) in
       let m = bodies_agree b c (suites (forms e)) k (stops_both (clauses_stop h p o (omega arith)) (later (omega arith) f))
       (at_line (omega arith)) in
-      absurd (no_final h ((ws ++ js) ++ r) (sym (behind m.same k) ∙ append_assoc ys (ws ++ js) r))
+      absurd (no_final h ((ws ++ js) ++ r) (sym (following m.same k) ∙ append_assoc ys (ws ++ js) r))
   statements_agree {r = r} {q = q} (B.try_except {xs = xs} {ys = ys} {zs = zs} {ws = ws} b h p o)
       (B.try_except {xs = us} {ys = vs} {zs = is} {ws = js} c j n d) i e f g =
       let k = regroup xs (ys ++ (zs ++ ws)) r us (vs ++ (is ++ js)) q (rests e) in
       let m = bodies_agree b c (suites (forms e)) k (stops_both (clauses_stop h p o (omega arith)) (later (omega arith) f))
       (stops_both (clauses_stop j n d (omega arith)) (later (omega arith) g)) in
-      let k2 = regroup ys (zs ++ ws) r vs (is ++ js) q (behind m.same k) in
+      let k2 = regroup ys (zs ++ ws) r vs (is ++ js) q (following m.same k) in
       let m2 = handlers_agree h j k2 (stops_both (last_stop p o (omega arith)) (later (omega arith) f))
       (stops_both (last_stop n d (omega arith)) (later (omega arith) g)) in
-      let k3 = regroup zs ws r is js q (behind m2.same k2) in
+      let k3 = regroup zs ws r is js q (following m2.same k2) in
       let m3 = others_agree p n k3 (stops_both (ending_stops o (omega arith)) (later (omega arith) f))
       (stops_both (ending_stops d (omega arith)) (later (omega arith) g)) in
-      let m4 = endings_agree o d (behind m3.same k3) f g in
+      let m4 = endings_agree o d (following m3.same k3) f g in
       opened (forms e) (both m.same (both m2.same (both m3.same m4.same))) refl
       (λ y ns. both (fronts m.same (m.places y) ns) (both (backs m.same (fronts m2.same m2.places) ns)
       (both (backs m.same (backs m2.same (fronts m3.same m3.places)) ns)
@@ -170,7 +170,7 @@ mutual
       (B.definition_of other {suite = t} {ds = ns} {xs = us} d c) i e f g =
       let k = regroup ds (line l (header_form (def_header head) s) ∷ xs) r ns (line l (header_form (def_header other) t) ∷ us) q e in
       let m = decorators_end head other s t (xs ++ r) (us ++ q) n d k in
-      let w = behind m k in
+      let w = following m k in
       let p = bodies_agree b c (suites (forms w)) (rests w) (later (omega arith) f) (later (omega arith) g) in
       record {
         same = both m (headed (forms w) p.same);
@@ -204,7 +204,7 @@ mutual
       let k = regroup xs ys r us vs q (rests e) in
       let m = bodies_agree b c (suites (forms e)) k (stops_both (alternative_stops a (omega arith)) (later (omega arith) f))
       (stops_both (alternative_stops d (omega arith)) (later (omega arith) g)) in
-      let n = alternatives_agree a d (behind m.same k) f g in
+      let n = alternatives_agree a d (following m.same k) f g in
       opened (forms e) (both m.same n.same) refl
       (λ z zs. both refl (both (fronts m.same (m.places z) zs) (both (backs m.same n.places zs) refl)))
 
@@ -228,7 +228,7 @@ mutual
       let k = regroup xs ys r us vs q (rests e) in
       let m = bodies_agree b c (suites (forms e)) k (stops_both (handlers_stop h (omega arith)) (later (omega arith) f))
       (stops_both (handlers_stop j (omega arith)) (later (omega arith) g)) in
-      let n = handlers_agree h j (behind m.same k) f g in
+      let n = handlers_agree h j (following m.same k) f g in
       opened (forms e) (both m.same n.same) refl
       (λ z zs. both refl (both (fronts m.same (m.places z) zs)
       (both (ap (λ x. own z (take (length x) zs)) m.same) (backs m.same n.places zs))))
@@ -243,7 +243,7 @@ mutual
       let k = regroup xs ys r us vs q (rests e) in
       let m = bodies_agree b c (suites (forms e)) k (stops_both (cases_stop a (omega arith)) (later (omega arith) f))
       (stops_both (cases_stop d (omega arith)) (later (omega arith) g)) in
-      let n = cases_agree a d (behind m.same k) f g in
+      let n = cases_agree a d (following m.same k) f g in
       opened (forms e) (both m.same n.same) refl
       (λ z zs. both refl (both (fronts m.same (m.places z) zs) (backs m.same n.places zs)))
 

@@ -68,8 +68,8 @@ atom_run G.no_literal h at rest k c p = absurd (cc)
 atom_run (G.text_literal l) h at rest k c p = on p
 atom_run (G.formatted_literal q l) h at rest k c p = on p
 
-behind_front : (ts us : List Terminal) → 14 ≤ lead_of ts → 12 < lead_of (ts ++ us)
-behind_front ts us l = omega (arith, lead_front ts us 14 (omega arith) l)
+after_front : (ts us : List Terminal) → 14 ≤ lead_of ts → 12 < lead_of (ts ++ us)
+after_front ts us l = omega (arith, lead_front ts us 14 (omega arith) l)
 
 mutual
   pub goes : {l : Level} {ts : List Terminal} {e : Expr} (p : G.Derives l ts e) → Good l ts e (λ at. places at p)
@@ -199,9 +199,9 @@ mutual
   compares_all : {us : List Terminal} {os : List Comparison} {es : List Expr} (c : G.Compares us os es)
       → Answers Signs us (λ at. compares_places at c) SignsStop
   compares_all (G.last_compare {ss = ss} {ts = ts} {o = o} c p) =
-      last_compare_goes ss ts o _ c (λ r. behind_front ts r (led p)) (goes p).0
+      last_compare_goes ss ts o _ c (λ r. after_front ts r (led p)) (goes p).0
   compares_all (G.compares {ss = ss} {ts = ts} {us = us} {o = o} c p w) =
-      compares_goes ss ts us o _ _ c (λ r. behind_front ts r (led p)) (goes p).0 (compares_grip w) (compares_all w)
+      compares_goes ss ts us o _ _ c (λ r. after_front ts r (led p)) (goes p).0 (compares_grip w) (compares_all w)
 
   pub listing_all : {i : Item} {us : List Terminal} {es : List Entry} (c : G.Listing i us es) → ListReads i us (λ at. listing_places at c)
   listing_all (G.no_item {i = i}) = no_item_goes i

@@ -24,7 +24,7 @@ use Rattle.pyplaces.specs.Inner.Looks.{grip, grip_of, lead_of}
 use Rattle.pyplaces.proofs.Unique.Led.{led}
 use Rattle.pyplaces.proofs.Unique.Operators.{left_grip, compares_grip}
 use Rattle.pyplaces.proofs.Unique.Balance.{walk, Balanced, nil, both, balanced, balanced_listing, balanced_comps, balanced_yields, shut}
-use Rattle.pyplaces.proofs.Unique.Balance.{shut_behind}
+use Rattle.pyplaces.proofs.Unique.Balance.{shut_after}
 
 pub heads : {t u : Terminal} {r s : List Terminal} → t ∷ r ≡ u ∷ s → t ≡ u
 heads q = cc
@@ -127,7 +127,7 @@ opens (G.joined_string c b h) w = literals_open c
 opens (G.group {ts = ts} p) w = round_opens ts (balanced p)
 opens (G.yield_group {ts = ts} p) w = round_opens (Word Key.Yield ∷ ts) (balanced_yields p)
 opens G.empty_tuple w = round_opens [] nil
-opens (G.tuple {ts = ts} {us = us} p c) w = as_opens (ap (λ z. Op LPar ∷ z) (shut_behind ts us (Op Comma) (Op RPar)))
+opens (G.tuple {ts = ts} {us = us} p c) w = as_opens (ap (λ z. Op LPar ∷ z) (shut_after ts us (Op Comma) (Op RPar)))
     (round_opens (ts ++ (Op Comma ∷ us)) (both ts (Op Comma ∷ us) (balanced p) (balanced_listing c)))
 opens (G.generator_group {ts = ts} {us = us} p c) w = as_opens (ap (λ z. Op LPar ∷ z) (shut ts us (Op RPar)))
     (round_opens (ts ++ us) (both ts us (balanced p) (balanced_comps c)))

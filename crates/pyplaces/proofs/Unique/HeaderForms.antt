@@ -17,7 +17,7 @@ use Rattle.pyplaces.specs.EntryPlaces as E
 use Rattle.pyplaces.specs.ExpressionPlaces.{places, target_places, listing_places}
 use Rattle.pyplaces.specs.PatternPlaces.{pattern_places}
 use Rattle.pyplaces.specs.FormPlaces.{FormPlaces, form_places, plain_header, items_places, item_places, bases_places, header_places}
-use Rattle.pyplaces.specs.FormPlaces.{case_places, type_params_places, behind_places}
+use Rattle.pyplaces.specs.FormPlaces.{case_places, type_params_places, after_places}
 use Rattle.pyplaces.specs.Inner.Looks.{lead_of, mark_of}
 use Rattle.pyplaces.specs.Inner.LineSteps.{HeadGoes, for_read, with_read, excepted, def_rest, def_read, class_rest, class_read}
 use Rattle.pyplaces.specs.Inner.LineSteps.{header_read, case_read}
@@ -28,7 +28,7 @@ use Rattle.pyplaces.proofs.Unique.LookLemmas.{fronted}
 use Rattle.pyplaces.proofs.Unique.Led.{led}
 use Rattle.pyplaces.proofs.Unique.Expressions.{goes, listing_all}
 use Rattle.pyplaces.proofs.Unique.Patterns.{pattern_goes}
-use Rattle.pyplaces.proofs.Unique.LineParts.{behind_marked, behind_gripped, commas_reads, ended_reads, item_reads, item_begins}
+use Rattle.pyplaces.proofs.Unique.LineParts.{after_marked, after_gripped, commas_reads, ended_reads, item_reads, item_begins}
 use Rattle.pyplaces.proofs.Unique.LineParts.{type_params_reads}
 
 head_counted : (k : HeadGoes) {f : FormPlaces} {n m : ℕ} (r : List Terminal) → n ≡ m → Comes (k f n r) (k f m r)
@@ -55,11 +55,11 @@ excepted_goes p (F.as_name {x = x}) a at z k =
 -- ---- `def`, `class`.
 
 def_goes : {profile : Profile} (x : Spelled) {us vs ws : List Terminal} {tps : List TypeParam} {ps : List Entry} {e : Option Expr}
-    (c : F.TypeParams profile us tps) (l : G.Listing (Parameter true) vs ps) (r : F.Behind (Op Sign.RArrow) Expression ws e) (a at : ℕ)
+    (c : F.TypeParams profile us tps) (l : G.Listing (Parameter true) vs ps) (r : F.Following (Op Sign.RArrow) Expression ws e) (a at : ℕ)
     (z : List Terminal) (k : HeadGoes)
     → Comes (def_read a at (Ident x ∷ (us ++ (Op Sign.LPar ∷ (vs ++ (Op Sign.RPar ∷ (ws ++ (Op Sign.Colon ∷ z))))))) k)
     (k (form_places (E.arranged (listing_places (3 + (at + (a + length us))) l))
-    (behind_places (4 + (at + (a + (length us + length vs)))) r ++ type_params_places (2 + (at + a)) c) [])
+    (after_places (4 + (at + (a + (length us + length vs)))) r ++ type_params_places (2 + (at + a)) c) [])
     (4 + (a + (length us + (length vs + length ws)))) (Op Sign.Colon ∷ z))
 def_goes x {us} {vs} {ws} c l r a at z k =
     via (type_params_reads c (2 + (at + a)) (Op Sign.LPar ∷ (vs ++ (Op Sign.RPar ∷ (ws ++ (Op Sign.Colon ∷ z))))) (def_rest a at k)
@@ -70,7 +70,7 @@ def_goes x {us} {vs} {ws} c l r a at z k =
       λ e. absurd (omega (arith, e)),
       (λ e. absurd (omega (arith, e)), omega arith, omega arith, λ e. absurd (omega (arith, e))),
     ))
-    (via (behind_marked 2 r refl (4 + (at + (a + (length us + length vs)))) (Op Sign.Colon ∷ z)
+    (via (after_marked 2 r refl (4 + (at + (a + (length us + length vs)))) (Op Sign.Colon ∷ z)
     (λ rs w r. k (form_places (E.arranged (listing_places (3 + (at + (a + length us))) l)) (rs ++ type_params_places (2 + (at + a)) c) [])
     (4 + (a + (length us + (length vs + w)))) r) (λ e. absurd (omega (arith, e)))
     (omega arith)) here))
@@ -191,11 +191,11 @@ pub case_goes : {ts : List Terminal} {y : Header} (h : F.CaseOf ts y) (z : List 
 case_goes (F.case_line {ts = ts} {us = us} form p g) z k =
     from (ap (λ r. case_read 0 (F.case_word form ∷ r) k) (append_assoc ts us (Op Sign.Colon ∷ z)))
     (via (pattern_goes p 1 (us ++ (Op Sign.Colon ∷ z)) _ (guard g))
-    (via (behind_gripped 9 g refl (1 + (0 + length ts)) (Op Sign.Colon ∷ z)
+    (via (after_gripped 9 g refl (1 + (0 + length ts)) (Op Sign.Colon ∷ z)
     (λ qs m r. k (plain_header (pattern_places 1 p ++ qs)) (1 + (length ts + m)) r) (λ e. absurd (omega (arith, e))) (omega arith))
     (head_counted k (Op Sign.Colon ∷ z) (omega (arith, length-append ts us)))))
   where
-    guard : {us : List Terminal} {e : Option Expr} → F.Behind (Word Key.If) Named us e
+    guard : {us : List Terminal} {e : Option Expr} → F.Following (Word Key.If) Named us e
         → (mark_of (us ++ (Op Sign.Colon ∷ z)) ≤ 5) × (lead_of (us ++ (Op Sign.Colon ∷ z)) ≤ 6)
-    guard F.none_behind = (omega arith, omega arith)
-    guard (F.behind p) = (omega arith, omega arith)
+    guard F.none_after = (omega arith, omega arith)
+    guard (F.following p) = (omega arith, omega arith)

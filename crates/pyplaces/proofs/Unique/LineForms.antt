@@ -117,7 +117,7 @@ case_test profile (F.case_line {ts = ts} {us = us} form p g) h r = case_begins p
 
 -- in front of the statements of a suite
 suite_goes : {profile : Profile} {us : List Terminal} {ys : List Stmt} (f : FormPlaces) (n : ℕ) (c : F.Simples profile us ys)
-    → Comes (suite_read f n (Op Sign.Colon ∷ us)) (Done (form_places f.before f.behind (simples_places (1 + n) c)) [])
+    → Comes (suite_read f n (Op Sign.Colon ∷ us)) (Done (form_places f.before f.following (simples_places (1 + n) c)) [])
 suite_goes f n c = untrue _ (statements_filled c) (via (statements_goes c (1 + n) _) here)
 
 form_told : {profile : Profile} (inside : Bool) {ts : List Terminal} {f : Form} (b : Bool) (h : is_case_line profile inside ts ≡ false)

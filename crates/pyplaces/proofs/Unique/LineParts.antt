@@ -1,6 +1,6 @@
--- Parts of lines: lists with commas, what may stand behind a sign, parameters of types.
+-- Parts of lines: lists with commas, what may stand after a sign, parameters of types.
 --
--- Carries: behind_marked .. type_params_reads, for SimpleForms, HeaderForms. On: Expressions, PatternLooks.
+-- Carries: after_marked .. type_params_reads, for SimpleForms, HeaderForms. On: Expressions, PatternLooks.
 use Rattle.std.proofs.Common.{◌≡◌, refl, sym, ap, ◌∙◌, ℕ, ◌+◌, ◌≤◌, arith, List, [], ◌∷◌, ◌++◌, length, append_assoc, length-append}
 use Rattle.std.proofs.Common.{Option, true, false}
 use Rattle.std.proofs.lemmas.Bool.{le-leb}
@@ -15,7 +15,7 @@ use Rattle.pygrammar.specs.Forms as F
 use Rattle.pygrammar.specs.Grammar as G
 use Rattle.pyplaces.specs.Stretches.{Stretch, over}
 use Rattle.pyplaces.specs.ExpressionPlaces.{places, del_target_places, item_target_places}
-use Rattle.pyplaces.specs.FormPlaces.{commas_places, ended_places, behind_places, type_param_places, type_params_places}
+use Rattle.pyplaces.specs.FormPlaces.{commas_places, ended_places, after_places, type_param_places, type_params_places}
 use Rattle.pyplaces.specs.FormPlaces.{dotted_alias_places, name_alias_places, item_places}
 use Rattle.pyplaces.specs.Inner.Looks.{grip, grip_of, lead_of, mark, mark_of}
 use Rattle.pyplaces.specs.Inner.ExpressionSteps.{Goes}
@@ -32,26 +32,26 @@ use Rattle.pyplaces.proofs.Unique.Operators.{same_true}
 use Rattle.pyplaces.proofs.Unique.PatternLooks.{miss_mark}
 use Rattle.pyplaces.proofs.Unique.Expressions.{goes}
 
--- ---- Behind a sign or word.
+-- ---- After a sign or word.
 
-pub behind_marked : (g : ℕ) {t : Terminal} {l : Level} {ts : List Terminal} {e : Option Expr} (q : F.Behind t l ts e) → mark t ≡ g
+pub after_marked : (g : ℕ) {t : Terminal} {l : Level} {ts : List Terminal} {e : Option Expr} (q : F.Following t l ts e) → mark t ≡ g
     → (at : ℕ) (rest : List Terminal) (k : Goes) → (mark_of rest ≡ g → ⊥) → Stops l rest
-    → Comes (marked g l at (ts ++ rest) k) (k (behind_places at q) (length ts) rest)
-behind_marked g F.none_behind e at rest k n s = miss_mark rest g _ n here
-behind_marked g (F.behind {t = t} {l = l} {ts = ts} p) e at rest k n s = is_true _ (same_true (mark t) g e)
+    → Comes (marked g l at (ts ++ rest) k) (k (after_places at q) (length ts) rest)
+after_marked g F.none_after e at rest k n s = miss_mark rest g _ n here
+after_marked g (F.following {t = t} {l = l} {ts = ts} p) e at rest k n s = is_true _ (same_true (mark t) g e)
     (via (answers l ts _ (goes p).0 (1 + at) rest _ s) (counted k rest (omega arith)))
 
-pub behind_gripped : (g : ℕ) {t : Terminal} {l : Level} {ts : List Terminal} {e : Option Expr} (q : F.Behind t l ts e) → grip t ≡ g
+pub after_gripped : (g : ℕ) {t : Terminal} {l : Level} {ts : List Terminal} {e : Option Expr} (q : F.Following t l ts e) → grip t ≡ g
     → (at : ℕ) (rest : List Terminal) (k : Goes) → (grip_of rest ≡ g → ⊥) → Stops l rest
-    → Comes (gripped g l at (ts ++ rest) k) (k (behind_places at q) (length ts) rest)
-behind_gripped g F.none_behind e at rest k n s = miss rest g _ n here
-behind_gripped g (F.behind {t = t} {l = l} {ts = ts} p) e at rest k n s = is_true _ (same_true (grip t) g e)
+    → Comes (gripped g l at (ts ++ rest) k) (k (after_places at q) (length ts) rest)
+after_gripped g F.none_after e at rest k n s = miss rest g _ n here
+after_gripped g (F.following {t = t} {l = l} {ts = ts} p) e at rest k n s = is_true _ (same_true (grip t) g e)
     (via (answers l ts _ (goes p).0 (1 + at) rest _ s) (counted k rest (omega arith)))
 
-pub behind_grip : {t : Terminal} {l : Level} {ts : List Terminal} {e : Option Expr} → F.Behind t l ts e → grip t ≤ 8 → (r : List Terminal)
+pub after_grip : {t : Terminal} {l : Level} {ts : List Terminal} {e : Option Expr} → F.Following t l ts e → grip t ≤ 8 → (r : List Terminal)
     → grip_of r ≤ 8 → grip_of (ts ++ r) ≤ 8
-behind_grip F.none_behind h r s = s
-behind_grip (F.behind p) h r s = h
+after_grip F.none_after h r s = s
+after_grip (F.following p) h r s = h
 
 -- "as" NAME
 pub as_reads : {us : List Terminal} {x : Option Identifier} → F.As us x → (n at : ℕ) (rest : List Terminal) (k : Goes)
@@ -102,16 +102,16 @@ module _ (x : Element) (A : Type 0) (X : List Terminal → A → Type 0) (one : 
       (via (commas_reads c (1 + (at + length ts)) rest _ s)
       (counted k rest (omega (arith, length-append ts (Op Sign.Comma ∷ us))))))))
 
-  -- with a comma behind
-  comma_behind : {ts : List Terminal} {as_ : List A} (c : F.Commas A X ts as_) (at : ℕ) (rest : List Terminal) (k : Goes)
+  -- with a comma after
+  comma_after : {ts : List Terminal} {as_ : List A} (c : F.Commas A X ts as_) (at : ℕ) (rest : List Terminal) (k : Goes)
       → element_starts x rest ≡ false
       → Comes (Ask (Commaed x) at (ts ++ (Op Sign.Comma ∷ rest)) k) (k (commas_places A X one at c) (1 + length ts) rest)
-  comma_behind (F.alone {ts = ts} {a = a} p) at rest k n =
+  comma_after (F.alone {ts = ts} {a = a} p) at rest k n =
       on (via (reads ts a p at (Op Sign.Comma ∷ rest) _ (comma_stops x rest)) (untrue _ n here))
-  comma_behind (F.comma {ts = ts} {us = us} {a = a} p c) at rest k n =
+  comma_after (F.comma {ts = ts} {us = us} {a = a} p c) at rest k n =
       shaped (Commaed x) at k (append_assoc ts (Op Sign.Comma ∷ us) (Op Sign.Comma ∷ rest))
       (on (via (reads ts a p at (Op Sign.Comma ∷ (us ++ (Op Sign.Comma ∷ rest))) _ (comma_stops x (us ++ (Op Sign.Comma ∷ rest))))
-      (is_true _ (commas_begin c (Op Sign.Comma ∷ rest)) (via (comma_behind c (1 + (at + length ts)) rest _ n)
+      (is_true _ (commas_begin c (Op Sign.Comma ∷ rest)) (via (comma_after c (1 + (at + length ts)) rest _ n)
       (counted k rest (omega (arith, length-append ts (Op Sign.Comma ∷ us))))))))
 
   pub ended_reads : {ts : List Terminal} {as_ : List A} (c : F.Commas? A X ts as_)
@@ -119,14 +119,14 @@ module _ (x : Element) (A : Type 0) (X : List Terminal → A → Type 0) (one : 
       (λ r. ElementStops x r × (mark_of r ≡ 6 → ⊥) × (element_starts x r ≡ false))
   ended_reads (F.ends_bare c) at rest k s = commas_reads c at rest k (s.0, s.1)
   ended_reads (F.ends_comma {ts = ts} c) at rest k s = shaped (Commaed x) at k (append_assoc ts (Op Sign.Comma ∷ []) rest)
-      (via (comma_behind c at rest k s.2) (counted k rest (omega (arith, length-append ts (Op Sign.Comma ∷ [])))))
+      (via (comma_after c at rest k s.2) (counted k rest (omega (arith, length-append ts (Op Sign.Comma ∷ [])))))
 
 -- ---- The elements.
 
 pub parameter_reads : (ts : List Terminal) (a : TypeParam) (p : F.TypeParamOf ts a)
     → ElementReads AParameter ts (λ at. type_param_places at p)
 parameter_reads _ _ (F.type_var {ts = ts} b) at rest k s =
-    via (behind_marked 4 b refl (1 + at) rest (λ ps n r. k (ps ++ over at (1 + n)) (1 + n) r) s.2 (omega (arith, s.0)))
+    via (after_marked 4 b refl (1 + at) rest (λ ps n r. k (ps ++ over at (1 + n)) (1 + n) r) s.2 (omega (arith, s.0)))
     (counted k rest (omega arith))
 parameter_reads _ _ F.type_var_tuple at rest k s = here
 parameter_reads _ _ F.param_spec at rest k s = here

@@ -17,7 +17,7 @@ use Rattle.pygrammar.specs.Forms as F
 use Rattle.pygrammar.specs.Grammar as G
 use Rattle.pyplaces.specs.Stretches.{Stretch, over}
 use Rattle.pyplaces.specs.ExpressionPlaces.{places, single_target_places, del_target_places}
-use Rattle.pyplaces.specs.FormPlaces.{perhaps_places, behind_places, names_places, field_places, simple_places, simples_places}
+use Rattle.pyplaces.specs.FormPlaces.{perhaps_places, after_places, names_places, field_places, simple_places, simples_places}
 use Rattle.pyplaces.specs.FormPlaces.{dotted_alias_places, name_alias_places}
 use Rattle.pyplaces.specs.Inner.Looks.{grip, grip_of, lead_of, mark, mark_of}
 use Rattle.pyplaces.specs.Inner.ExpressionSteps.{Goes}
@@ -33,7 +33,7 @@ use Rattle.pyplaces.proofs.Unique.Levels.{value_stops, Reads}
 use Rattle.pyplaces.proofs.Unique.Answered.{Answers, counted, shaped, PerhapsStops}
 use Rattle.pyplaces.proofs.Unique.Forms.{nothing_goes, something_goes}
 use Rattle.pyplaces.proofs.Unique.PatternLooks.{miss_mark}
-use Rattle.pyplaces.proofs.Unique.LineParts.{behind_marked, behind_gripped, behind_grip, module_reads, commas_reads, ended_reads}
+use Rattle.pyplaces.proofs.Unique.LineParts.{after_marked, after_gripped, after_grip, module_reads, commas_reads, ended_reads}
 use Rattle.pyplaces.proofs.Unique.LineParts.{alias_reads}
 use Rattle.pyplaces.proofs.Unique.LineParts.{alias_begins, dotted_alias_reads, dotted_alias_begins, deleted_reads, deleted_begins}
 use Rattle.pyplaces.proofs.Unique.LineParts.{no_places}
@@ -177,10 +177,10 @@ field_goes (F.augmented_assign {ts = ts} {us = us} x {o = o} t h p) at rest k s 
 field_goes (F.annotated_name {x = x} {ts = ts} {us = us} p v) at rest k s =
     from (ap (λ z. fields_read at (Ident x ∷ (Op Sign.Colon ∷ z)) k) (append_assoc ts us rest))
     (via (annotation_goes (Ident x ∷ []) (λ at. over at 1) (name_value x) p v at rest k s)
-    (to here (ap (λ z. k (over at 1 ++ (places z p ++ behind_places (1 + (at + (1 + length ts))) v))
+    (to here (ap (λ z. k (over at 1 ++ (places z p ++ after_places (1 + (at + (1 + length ts))) v))
     (1 + (1 + (length ts + length us))) rest) first
-    ∙ (ap (λ z. k (over at 1 ++ (places (2 + at) p ++ behind_places z v)) (1 + (1 + (length ts + length us))) rest) second
-    ∙ ap (λ z. k (over at 1 ++ (places (2 + at) p ++ behind_places (2 + (at + length ts)) v)) z rest)
+    ∙ (ap (λ z. k (over at 1 ++ (places (2 + at) p ++ after_places z v)) (1 + (1 + (length ts + length us))) rest) second
+    ∙ ap (λ z. k (over at 1 ++ (places (2 + at) p ++ after_places (2 + (at + length ts)) v)) z rest)
     (omega (arith, length-append ts us))))))
   where
     first : 1 + (at + 1) ≡ 2 + at
@@ -197,15 +197,15 @@ field_goes (F.annotated_group {ts = ts} {us = us} {vs = vs} t p v) at rest k s =
     shape rest = simp append_assoc refl
 
     placed : (n : ℕ) → n ≡ 1 + length ts → Comes (k (single_target_places (1 + at) t ++ (places (1 + (at + suc n)) p ++
-        behind_places (1 + (at + (suc n + length us))) v)) (1 + (suc n + (length us + length vs))) rest)
-        (k (single_target_places (1 + at) t ++ (places (3 + (at + length ts)) p ++ behind_places (3 + (at + (length ts + length us))) v))
+        after_places (1 + (at + (suc n + length us))) v)) (1 + (suc n + (length us + length vs))) rest)
+        (k (single_target_places (1 + at) t ++ (places (3 + (at + length ts)) p ++ after_places (3 + (at + (length ts + length us))) v))
         (length (Op Sign.LPar ∷ (ts ++ (Op Sign.RPar ∷ (Op Sign.Colon ∷ (us ++ vs)))))) rest)
-    placed n e = to here (ap (λ z. k (single_target_places (1 + at) t ++ (places z p ++ behind_places (1 + (at + (suc n + length us))) v))
+    placed n e = to here (ap (λ z. k (single_target_places (1 + at) t ++ (places z p ++ after_places (1 + (at + (suc n + length us))) v))
         (1 + (suc n + (length us + length vs))) rest) (first n e)
-        ∙ (ap (λ z. k (single_target_places (1 + at) t ++ (places (3 + (at + length ts)) p ++ behind_places z v))
+        ∙ (ap (λ z. k (single_target_places (1 + at) t ++ (places (3 + (at + length ts)) p ++ after_places z v))
         (1 + (suc n + (length us + length vs))) rest) (second n e)
         ∙ ap (λ z. k (single_target_places (1 + at) t ++ (places (3 + (at + length ts)) p ++
-        behind_places (3 + (at + (length ts + length us))) v)) z rest) (third n e)))
+        after_places (3 + (at + (length ts + length us))) v)) z rest) (third n e)))
       where
         first : (n : ℕ) → n ≡ 1 + length ts → 1 + (at + suc n) ≡ 3 + (at + length ts)
         first n e = omega (arith, e)
@@ -239,14 +239,14 @@ field_goes F.raise_alone at rest k s = untrue _ (starts_low Expression rest (ome
 field_goes (F.raise_of {ts = ts} {us = us} p c) at rest k s =
     from (ap (λ z. fields_read at (Word Key.Raise ∷ z) k) (append_assoc ts us rest))
     (is_true _ (starts_of Expression ts (us ++ rest) (omega arith) (led p))
-    (via ((goes p).0 (1 + at) (us ++ rest) _ (behind_grip c (omega arith) rest (omega (arith, s.0))))
-    (via (behind_gripped 4 c refl (1 + (at + length ts)) rest (λ qs m r. k (places (1 + at) p ++ qs) (1 + (length ts + m)) r)
+    (via ((goes p).0 (1 + at) (us ++ rest) _ (after_grip c (omega arith) rest (omega (arith, s.0))))
+    (via (after_gripped 4 c refl (1 + (at + length ts)) rest (λ qs m r. k (places (1 + at) p ++ qs) (1 + (length ts + m)) r)
     (λ e. omega (arith, e, s.0)) (omega (arith, s.0)))
     (counted k rest (omega (arith, length-append ts us))))))
 field_goes (F.assert_of {ts = ts} {us = us} p c) at rest k s =
     from (ap (λ z. fields_read at (Word Key.Assert ∷ z) k) (append_assoc ts us rest))
-    (via ((goes p).0 (1 + at) (us ++ rest) _ (behind_grip c (omega arith) rest (omega (arith, s.0))))
-    (via (behind_marked 6 c refl (1 + (at + length ts)) rest (λ qs m r. k (places (1 + at) p ++ qs) (1 + (length ts + m)) r)
+    (via ((goes p).0 (1 + at) (us ++ rest) _ (after_grip c (omega arith) rest (omega (arith, s.0))))
+    (via (after_marked 6 c refl (1 + (at + length ts)) rest (λ qs m r. k (places (1 + at) p ++ qs) (1 + (length ts + m)) r)
     (λ e. omega (arith, e, s.2)) (omega (arith, s.0)))
     (counted k rest (omega (arith, length-append ts us)))))
 field_goes (F.delete c) at rest k s =

@@ -25,7 +25,7 @@ line_alike lines {profile} {i} {ts = ts} {f = f} {g = g} e p q =
     let P : Bool → Type 0 = λ k. (q : FormAt profile k ts g) → (f ≡ g) × (places_at p ≡ places_at q) in
     subst P e (λ q. (forms_are_lawful.unique profile i ts f g p q, lines profile i ts f g p q)) q
 
--- lines, behind the same ones
+-- lines, after the same ones
 lines_alike : OfLines → (spans : Tokens.Line → List Span) {profile : Profile} {earlier : List Line} {xs : List Tokens.Line}
     {ys before zs : List Line} (p : Formed profile earlier xs ys) (q : Formed profile before xs zs) → earlier ≡ before
     → (ys ≡ zs) × (formed_places spans p ≡ formed_places spans q)

@@ -14,7 +14,7 @@ use Rattle.pygrammar.specs.Forms as F
 use Rattle.pygrammar.specs.Grammar as G
 use Rattle.pyplaces.specs.Stretches.{Stretch, over}
 use Rattle.pyplaces.specs.ExpressionPlaces.{places, target_places}
-use Rattle.pyplaces.specs.FormPlaces.{plain_header, behind_places, targets_places}
+use Rattle.pyplaces.specs.FormPlaces.{plain_header, after_places, targets_places}
 use Rattle.pyplaces.specs.Inner.Looks.{after, grip_of, lead_of, mark_of, is_named}
 use Rattle.pyplaces.specs.Inner.ExpressionSteps.{Goes}
 use Rattle.pyplaces.specs.Inner.LineSteps.{annotated}
@@ -27,7 +27,7 @@ use Rattle.pyplaces.proofs.Unique.Levels.{Stops, value_stops, Reads, next_goes, 
 use Rattle.pyplaces.proofs.Unique.Answered.{Answers, shaped}
 use Rattle.pyplaces.proofs.Unique.AtomForms.{group_goes}
 use Rattle.pyplaces.proofs.Unique.PatternLooks.{miss_mark}
-use Rattle.pyplaces.proofs.Unique.LineParts.{behind_marked}
+use Rattle.pyplaces.proofs.Unique.LineParts.{after_marked}
 use Rattle.pyplaces.proofs.Unique.Expressions.{goes}
 
 -- what may follow a statement
@@ -151,24 +151,24 @@ targets_led (F.more_targets {ts = ts} t c) = lead_front ts _ 7 (omega arith) (ta
 -- ---- Annotations.
 
 pub annotated_goes : {us vs : List Terminal} {a : Expr} {v : Option Expr} (p : G.Derives Expression us a)
-    (q : F.Behind (Op Sign.Equal) Value vs v) (ps : List Stretch) (n at : ℕ) (rest : List Terminal) (k : Goes) → EndStops rest
+    (q : F.Following (Op Sign.Equal) Value vs v) (ps : List Stretch) (n at : ℕ) (rest : List Terminal) (k : Goes) → EndStops rest
     → Comes (annotated ps n at (us ++ (vs ++ rest)) k)
-    (k (ps ++ (places (1 + (at + n)) p ++ behind_places (1 + (at + (n + length us))) q)) (1 + (n + (length us + length vs))) rest)
+    (k (ps ++ (places (1 + (at + n)) p ++ after_places (1 + (at + (n + length us))) q)) (1 + (n + (length us + length vs))) rest)
 annotated_goes {us = us} {vs = vs} p q ps n at rest k s = via ((goes p).0 (1 + (at + n)) (vs ++ rest) _ (equal q))
-    (via (behind_marked 5 q refl (1 + (at + (n + length us))) rest
+    (via (after_marked 5 q refl (1 + (at + (n + length us))) rest
     (λ rs w r. k (ps ++ (places (1 + (at + n)) p ++ rs)) (1 + (n + (length us + w))) r) (λ e. omega (arith, e, s.2))
     (value_stops rest (omega (arith, s.0)) (omega (arith, s.1))))
     here)
   where
-    equal : {vs : List Terminal} {v : Option Expr} → F.Behind (Op Sign.Equal) Value vs v → grip_of (vs ++ rest) ≤ 8
-    equal F.none_behind = omega (arith, s.0)
-    equal (F.behind p) = omega arith
+    equal : {vs : List Terminal} {v : Option Expr} → F.Following (Op Sign.Equal) Value vs v → grip_of (vs ++ rest) ≤ 8
+    equal F.none_after = omega (arith, s.0)
+    equal (F.following p) = omega arith
 
--- behind a Value that is a target
+-- after a Value that is a target
 pub annotation_goes : (ts : List Terminal) {us vs : List Terminal} {a : Expr} {v : Option Expr} (f : ℕ → List Stretch) → Reads Value ts f
-    → (p : G.Derives Expression us a) (q : F.Behind (Op Sign.Equal) Value vs v) (at : ℕ) (rest : List Terminal) (k : Goes) → EndStops rest
+    → (p : G.Derives Expression us a) (q : F.Following (Op Sign.Equal) Value vs v) (at : ℕ) (rest : List Terminal) (k : Goes) → EndStops rest
     → Comes (Ask Valued at (ts ++ (Op Sign.Colon ∷ (us ++ (vs ++ rest)))) k) (k (f at ++ (places (1 + (at + length ts)) p ++
-    behind_places (1 + (at + (length ts + length us))) q)) (1 + (length ts + (length us + length vs))) rest)
+    after_places (1 + (at + (length ts + length us))) q)) (1 + (length ts + (length us + length vs))) rest)
 annotation_goes ts {us} {vs} f c p q at rest k s = on (via (c at (Op Sign.Colon ∷ (us ++ (vs ++ rest))) _ (
   omega arith,
   λ e. absurd (omega (arith, e)),

@@ -106,7 +106,7 @@ module _ (profile : Profile) where
 
   -- (x): int
   annotated : spans (0 ∷ 1 ∷ 1 ∷ 2 ∷ 2 ∷ 3 ∷ 3 ∷ 4 ∷ 5 ∷ 8 ∷ [])
-      (F.annotated_group (G.single_target (a A) refl) (expression (a A)) F.none_behind) ≡ span 1 2 ∷ span 5 8 ∷ span 0 8 ∷ []
+      (F.annotated_group (G.single_target (a A) refl) (expression (a A)) F.none_after) ≡ span 1 2 ∷ span 5 8 ∷ span 0 8 ∷ []
   annotated = refl
 
   -- from . import (a, b as c,)

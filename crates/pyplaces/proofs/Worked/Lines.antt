@@ -35,7 +35,7 @@ defined = placed (3 ∷ 6 ∷ 7 ∷ 8 ∷ 8 ∷ 9 ∷ 9 ∷ 10 ∷ 10 ∷ 11 ∷
     ∷ 28 ∷ 29 ∷ 29 ∷ 30 ∷ 31 ∷ 35 ∷ [])
     (F.header_suite (F.def_line (as_name) F.no_async F.no_type_params
     (G.item (G.parameter {b = true} {x = as_name} (G.suffix (expression (a A))) (G.suffix (expression (atom (G.group (named (n 1)))))))
-    (G.last_item (G.star_parameter {x = as_name} G.no_suffix))) refl (F.behind (expression (a A)))) (F.last_simple F.pass))
+    (G.last_item (G.star_parameter {x = as_name} G.no_suffix))) refl (F.following (expression (a A)))) (F.last_simple F.pass))
 
 definition : statement_places (decorated ∷ defined ∷ []) (B.definition_of {l = 0} (class_head A [] [] Trees.no_keyword)
     {suite = Some []} (B.decorator {e = Trees.Name A Load} B.no_decorator) B.inline)

@@ -23,7 +23,7 @@ first_places (Single ps ∷ es) = ps
 first_places (Paired ks vs ∷ es) = ks ++ vs
 first_places _ = []
 
--- a comprehension behind its item, and the bracket that closes it
+-- a comprehension after its item, and the bracket that closes it
 abbrev clauses : List Stretch → ℕ → ℕ → List Terminal → (List Stretch → ℕ → List Terminal → Reading) → Reading
 clauses ps n at r k = Ask Clauses (1 + (at + n)) r
     (λ gs m r1. k (ps ++ (gs ++ over at (2 + (n + m)))) (2 + (n + m)) (after r1))
@@ -47,7 +47,7 @@ paired at r k = Ask (Items Pair) (1 + at) r (λ es n r1.
     cond (starts_comp r1) (clauses (first_places es) n at r1 k)
     (k (keys es ++ (values es ++ over at (2 + n))) (2 + n) (after r1)))
 
--- a colon behind the first item makes it a Dict
+-- a colon after the first item makes it a Dict
 abbrev pub curly : ℕ → List Terminal → (List Stretch → ℕ → List Terminal → Reading) → Reading
 curly at (Op RBrace ∷ r) k = k (over at 2) 2 r
 curly at (Op DoubleStar ∷ r) k = paired at (Op DoubleStar ∷ r) k

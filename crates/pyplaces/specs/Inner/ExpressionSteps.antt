@@ -102,7 +102,7 @@ abbrev pub links_step : BoolOperator → ℕ → List Terminal → Goes → Read
 links_step o at i k = Ask (An (below (chain_level o))) at i (λ ps n r. on_grip (rank (chain_level o)) r
     (Ask (Links o) (1 + (at + n)) (after r) (λ qs m r1. k (ps ++ qs) (1 + (n + m)) r1)) (k ps n r))
 
--- behind the sign of a comparison, which is so many terminals
+-- after the sign of a comparison, which is so many terminals
 abbrev pub signed : ℕ → ℕ → List Terminal → Goes → Reading
 signed s at i k = Ask (An BitOr) (at + s) i (λ ps n r. on_grip 13 r
     (Ask Signs (at + (s + n)) r (λ qs m r1. k (ps ++ qs) (s + (n + m)) r1)) (k ps (s + n) r))

@@ -37,7 +37,7 @@ abbrev pub parameter_read : ℕ → List Terminal → Goes → Reading
 parameter_read at (Ident x ∷ r) k = marked 4 Expression (1 + at) r (λ ps n r1. k (ps ++ over at (1 + n)) (1 + n) r1)
 parameter_read at r k = k (over at 2) 2 (after (after r))
 
--- what stands behind `as` in an item
+-- what stands after `as` in an item
 abbrev pub item_target : ℕ → List Terminal → Goes → Reading
 item_target at i k = on_lead 7 i
     (Ask (An Expression) (1 + at) (after i) (λ ps n r. k (ps ++ over at (1 + n)) (1 + n) r)) (Ask (An Expression) at i k)
@@ -145,7 +145,7 @@ statements_step at i k = Ask Statement at i (λ ps n r. on_mark 1 r (cond (is_en
 abbrev pub HeadGoes : Type 0
 HeadGoes = FormPlaces → ℕ → List Terminal → Reading
 
--- an expression that is all of a header behind so many terminals
+-- an expression that is all of a header after so many terminals
 abbrev pub headed : Level → ℕ → ℕ → List Terminal → HeadGoes → Reading
 headed l n at r k = Ask (An l) (n + at) r (λ ps m r1. k (plain_header ps) (n + m) r1)
 
@@ -205,7 +205,7 @@ case_read at i k = Ask (Pattern Patterns) (1 + at) (after i) (λ ps n r. gripped
 
 -- ---- Lines.
 
--- what stands behind a header, from its colon on
+-- what stands after a header, from its colon on
 abbrev pub suite_read : FormPlaces → ℕ → List Terminal → Reading
 suite_read f n r = cond (is_end (after r)) (Done f []) (Ask Statements (1 + n) (after r) (λ ps m r1. Done (with_suite ps f) []))
 

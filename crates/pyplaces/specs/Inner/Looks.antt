@@ -1,4 +1,4 @@
--- What a terminal is behind an expression and in front of one, as numbers; what follows in a list of terminals.
+-- What a terminal is after an expression and in front of one, as numbers; what follows in a list of terminals.
 use Rattle.std.specs.Prelude.{ℕ, ◌==◌, List, [], ◌∷◌, Bool, true, false, cond}
 use Rattle.pylex_lexeme.specs.declared.kinds.Exact.TheVariants.{LPar, LSqb, Colon, Comma, Semi, Plus, Minus, VBar, Equal, Dot, ColonEqual}
 use Rattle.pylex_lexeme.specs.declared.kinds.Exact.TheVariants.{PlusEqual, MinEqual, StarEqual, SlashEqual, PercentEqual, AmperEqual}
@@ -6,7 +6,7 @@ use Rattle.pylex_lexeme.specs.declared.kinds.Exact.TheVariants.{VBarEqual, Circu
 use Rattle.pylex_lexeme.specs.declared.kinds.Exact.TheVariants.{DoubleStarEqual, DoubleSlashEqual, AtEqual, RArrow}
 use Rattle.pytoken.specs.declared.keywords.Keyword.TheVariants as Key
 use Rattle.pytoken.specs.Terminals.{Terminal, Op, Word, Ident, Literal, FormattedBegin}
-use Rattle.pygrammar.specs.Precedence.{behind, infix_rank, lead}
+use Rattle.pygrammar.specs.Precedence.{following, infix_rank, lead}
 use Rattle.pygrammar.specs.Reader.{on_some}
 
 -- the rank of the level at which a terminal carries on what stands before it
@@ -25,7 +25,7 @@ grip_else FormattedBegin = 25
 grip_else _ = 0
 
 abbrev pub grip : Terminal → ℕ
-grip t = on_some (behind t) infix_rank (grip_else t)
+grip t = on_some (following t) infix_rank (grip_else t)
 
 abbrev pub grip_of : List Terminal → ℕ
 grip_of [] = 0
@@ -35,7 +35,7 @@ abbrev pub lead_of : List Terminal → ℕ
 lead_of [] = 0
 lead_of (t ∷ ts) = lead t
 
--- the terminals behind the first
+-- the terminals after the first
 abbrev pub after : List Terminal → List Terminal
 after [] = []
 after (t ∷ ts) = ts
@@ -63,7 +63,7 @@ on_lead n r hit miss = cond (lead_of r == n) hit miss
 
 -- ---- Patterns and lines.
 
--- what a terminal is behind a pattern or a part of a line: what may follow a pattern of a level has at most a certain number
+-- what a terminal is after a pattern or a part of a line: what may follow a pattern of a level has at most a certain number
 abbrev pub mark : Terminal → ℕ
 mark (Op Semi) = 1
 mark (Op RArrow) = 2

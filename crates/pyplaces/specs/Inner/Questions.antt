@@ -27,9 +27,9 @@ pub data Element : Type 0 where
 -- what is asked for
 pub data Question : Type 0 where
   An : Level → Question
-  More : Level → List Stretch → ℕ → Question  -- the operators of a level, behind so many terminals with these places
+  More : Level → List Stretch → ℕ → Question  -- the operators of a level, after so many terminals with these places
   Trailers : List Stretch → ℕ → Question  -- what follows an Atom in a Primary
-  Bounds : List Stretch → ℕ → Question  -- a Slice behind its first bound, from the colon on
+  Bounds : List Stretch → ℕ → Question  -- a Slice after its first bound, from the colon on
   Yielded : Question
   Perhaps : Level → Question
   Suffixed : Option Exact → Question
@@ -54,7 +54,7 @@ pub data Question : Type 0 where
   Commaed : Element → Question
   Module : Question
   Dots : Question
-  Valued : Question  -- what an `=` may stand behind
+  Valued : Question  -- what an `=` may stand after
   Statement : Question
   Statements : Question
 
@@ -80,7 +80,7 @@ Answer (Entry i) = PatternPlaces.EntryPlaces
 Answer _ = List Stretch
 
 -- what is still to come: a question at a place of the line, in front of some terminals, and how its answer, how many terminals that has
--- and those behind them go on
+-- and those after them go on
 pub data Reading : Type 0 where
   Done : FormPlaces → List Terminal → Reading
   Ask : (q : Question) → ℕ → List Terminal → (Answer q → ℕ → List Terminal → Reading) → Reading

@@ -16,7 +16,7 @@ use Rattle.pysource.specs.Lines.{bad_at, lone_return_at}
 pub utf8_before : (bs : List ℕ) (n k : ℕ) → n ≡ utf8_valid_len bs → k < n → bad_at Utf8 bs k ≡ lone_return_at bs k
 utf8_before bs n k e h = rw (ne_eqb k (utf8_valid_len bs) (λ s. absurd (omega arith)))
 
--- the byte behind that front is bad
+-- the byte after that front is bad
 pub utf8_at : (bs : List ℕ) (n : ℕ) → n ≡ utf8_valid_len bs → bad_at Utf8 bs n ≡ Some NotUtf8
 utf8_at bs n e = rw (eq-eqb n (utf8_valid_len bs) e)
 

@@ -126,9 +126,9 @@ pick a n z none = elim (cases_eq a n) [
   | inr d ↦ rw (ne_eqb a n d) refl
 ]
 
--- a line in front leaves what stands behind the last line feed
-pub suffix_behind : (front x : List ℕ) → suffix_len (λ b. not (is_lf b)) ((front ++ 10 ∷ []) ++ x) ≡ suffix_len (λ b. not (is_lf b)) x
-suffix_behind front x =
+-- a line in front leaves what stands after the last line feed
+pub suffix_after : (front x : List ℕ) → suffix_len (λ b. not (is_lf b)) ((front ++ 10 ∷ []) ++ x) ≡ suffix_len (λ b. not (is_lf b)) x
+suffix_after front x =
     let p = λ (b : ℕ). not (is_lf b) in
     let l = front ++ 10 ∷ [] in
     let stops : prefix_len p (reverse l) ≡ 0 = ap (prefix_len p) (reverse-append front (10 ∷ [])) in
@@ -136,20 +136,20 @@ suffix_behind front x =
     ∙ pick (prefix_len p (reverse x)) (length (reverse x)) (prefix_len p (reverse l)) stops
 
 -- the same of the last line
-pub after_last_behind : (front x : List ℕ) → after_last is_lf ((front ++ 10 ∷ []) ++ x) ≡ after_last is_lf x
-after_last_behind front x =
+pub after_last_after : (front x : List ℕ) → after_last is_lf ((front ++ 10 ∷ []) ++ x) ≡ after_last is_lf x
+after_last_after front x =
     let l = front ++ 10 ∷ [] in
     let s = suffix_len-le-length (λ b. not (is_lf b)) x in
     let whole = length-append l x in
-    let behind = suffix_behind front x in
+    let following = suffix_after front x in
     let place : length (l ++ x) - suffix_len (λ b. not (is_lf b)) (l ++ x) ≡ length l + (length x - suffix_len (λ b. not (is_lf b)) x) =
-    omega (arith, s, whole, behind) in
+    omega (arith, s, whole, following) in
     ap (λ (n : ℕ). drop n (l ++ x)) place ∙ sym (drop-drop (length x - suffix_len (λ b. not (is_lf b)) x) (length l) (l ++ x))
     ∙ ap (drop (length x - suffix_len (λ b. not (is_lf b)) x)) (drop_at l x (length l) refl)
 
 -- a line in front counts one
-pub count_behind : (front x : List ℕ) → NoLf front → count_by is_lf ((front ++ 10 ∷ []) ++ x) ≡ 1 + count_by is_lf x
-count_behind front x clean =
+pub count_after : (front x : List ℕ) → NoLf front → count_by is_lf ((front ++ 10 ∷ []) ++ x) ≡ 1 + count_by is_lf x
+count_after front x clean =
     let f = λ (b : ℕ). cond (is_lf b) 1 0 in
     let none = count_none front clean in
     let parts = sum_by-append f front (10 ∷ []) in
@@ -196,7 +196,7 @@ told_last c row t (Some q) last bad =
     let found = bad_found c t (Some q) bad in
     told_here c row t t [] q last.lines bad (omega (arith, found.1)) refl (NoLf-take q.0 t last.clean)
 
--- behind a good first line
+-- after a good first line
 told_next : (c : Charset) (row : ℕ) (front rest : List ℕ) (s : Option (ℕ × LineError)) → NoLf front
     → lines_of ((front ++ 10 ∷ []) ++ rest) ≡ (front ++ 10 ∷ []) ∷ lines_of rest → first_bad c (front ++ 10 ∷ []) ≡ None
     → first_bad c rest ≡ s → Told c (row + 1) rest s → Told c row ((front ++ 10 ∷ []) ++ rest) (first_bad c ((front ++ 10 ∷ []) ++ rest))
@@ -212,7 +212,7 @@ told_next c row front rest (Some q) clean lines good bad told =
     let part = take q.0 rest in
     let less : p - length l ≡ q.0 = omega arith in
     let before : take p t ≡ l ++ part = take_over l rest p (omega arith) ∙ ap (λ (n : ℕ). l ++ take n rest) less in
-    let last : after_last is_lf (take p t) ≡ after_last is_lf part = ap (after_last is_lf) before ∙ after_last_behind front part in
+    let last : after_last is_lf (take p t) ≡ after_last is_lf part = ap (after_last is_lf) before ∙ after_last_after front part in
     let small = last_short part in
     let short = length-take q.0 rest in
     let n = p - length (after_last is_lf (take p t)) in
@@ -220,7 +220,7 @@ told_next c row front rest (Some q) clean lines good bad told =
     let from : n - length l ≡ q.0 - length (after_last is_lf part) = omega (arith, size, small, short) in
     let text : l ++ take (q.0 - length (after_last is_lf part)) rest ≡ take n t =
     sym (take_over l rest n (omega (arith, size, small, short)) ∙ ap (λ (k : ℕ). l ++ take k rest) from) in
-    let count : count_by is_lf (take p t) ≡ 1 + count_by is_lf part = ap (count_by is_lf) before ∙ count_behind front part clean in
+    let count : count_by is_lf (take p t) ≡ 1 + count_by is_lf part = ap (count_by is_lf) before ∙ count_after front part clean in
     let row_is : row + 1 + count_by is_lf part ≡ row + count_by is_lf (take p t) = omega (arith, count) in
     let fault : told_fault (row + 1) rest q ≡ told_fault row t (p, q.1) =
     ap (λ (r : ℕ). let f : LineFault = record { code = q.1; place = record { row = r; column = length (chars (after_last is_lf part)) } } in
@@ -294,7 +294,7 @@ unfolding lines_of
 first_of_alone [] h = (refl, refl)
 first_of_alone (b ∷ bs) h = let lines = lines_alone (b ∷ bs) h (omega arith) in (rw lines refl, rw lines refl)
 
--- behind a line in front stands the second
+-- after a line in front stands the second
 pub first_of_more : (front rest : List ℕ) → NoLf front → (nth_line ((front ++ 10 ∷ []) ++ rest) 0 ≡ front ++ 10 ∷ []) ×
     (nth_line ((front ++ 10 ∷ []) ++ rest) 1 ≡ nth_line rest 0)
 first_of_more front rest h = let lines = lines_at front rest h in (rw lines refl, rw lines refl)

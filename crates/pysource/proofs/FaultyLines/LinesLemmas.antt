@@ -50,7 +50,7 @@ valid_front bs = up_to_front bs (length bs)
 pub valid_whole : (bs : List ℕ) → utf8_valid_len bs ≡ length bs → IsUtf8 bs
 valid_whole bs e = subst IsUtf8 (take_all (length bs) bs (omega arith)) (subst (λ (n : ℕ). IsUtf8 (take n bs)) e (valid_front bs))
 
--- bytes are UTF-8, or stop being it behind the valid front
+-- bytes are UTF-8, or stop being it after the valid front
 pub valid_cases : (bs : List ℕ) → IsUtf8 bs ⊎ IsValidUpTo bs (utf8_valid_len bs)
 unfolding utf8_valid_len
 valid_cases bs = elim (cases_lt (utf8_valid_len bs) (length bs)) [
@@ -262,7 +262,7 @@ first_bad_line c front rest q e =
     (bad_local c front rest q.0 inside ∙ found.2)
     (λ k low high. bad_local c front rest k (omega arith) ∙ found.3 k low high)
 
--- Behind a good first line it is what is bad in the rest.
+-- After a good first line it is what is bad in the rest.
 before_in_rest : (c : Charset) (front rest : List ℕ) (p : ℕ) → first_bad c (front ++ 10 ∷ []) ≡ None
     → ((k : ℕ) → 0 ≤ k → k < p → bad_at c rest k ≡ None) → (k : ℕ) → k < length (front ++ 10 ∷ []) + p
     → bad_at c ((front ++ 10 ∷ []) ++ rest) k ≡ None

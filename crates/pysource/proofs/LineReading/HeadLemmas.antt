@@ -33,7 +33,7 @@ encoding_unsearched f s t e =
     unsearched (length (cookie_of (without_mark f))) (leads_on (without_mark f)) (nat_lt 0 (length (cookie_of s)))
     (nat_lt 0 (length (cookie_of t))) _ _ _ _ e
 
--- bytes behind a line feed make no byte order mark
+-- bytes after a line feed make no byte order mark
 mark_front : (front rest : List ℕ) → has_mark ((front ++ 10 ∷ []) ++ rest) ≡ has_mark (front ++ 10 ∷ [])
 mark_front [] rest = refl
 mark_front (a ∷ []) rest = refl
@@ -197,7 +197,7 @@ clean_from start bytes clean =
     no_lf_all (drop start bytes) (λ k low high e. clean (start + k) (omega arith) (omega (arith, size))
     (sym (get_or-drop start bytes k 0) ∙ e))
 
--- the first line where more was read behind it
+-- the first line where more was read after it
 first_on : (first : ℕ) (mid i : Intake) (t : List ℕ) → i.buffer ≡ mid.buffer ++ t → LineAt 0 first mid.buffer
     → LineAt 0 first i.buffer × (take first i.buffer ≡ take first mid.buffer)
 first_on first mid i t e at =

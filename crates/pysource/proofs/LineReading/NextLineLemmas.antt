@@ -23,13 +23,13 @@ use Rattle.pysource.proofs.LineReading.ComingLemmas.{no_lf_all}
 use Rattle.pysource.proofs.LineReading.HeadLemmas.{nth_first, nth_here}
 use Rattle.pysource.proofs.TakenBytes.TakingLemmas.{ReadsBytes-none}
 use Rattle.pysource.proofs.LineReading.StreamLemmas.{held, skipped, gives_nothing, gives_fault, gives_line, gives_last, gives_bad}
-use Rattle.pysource.proofs.LineReading.StreamLemmas.{gives_last_bad, is_line, is_last, only_behind, only_end, only_fault, only_unread}
+use Rattle.pysource.proofs.LineReading.StreamLemmas.{gives_last_bad, is_line, is_last, only_after, only_end, only_fault, only_unread}
 
 -- bytes without line feed are their own first line
 pub none_past : (bytes : List ℕ) → NoLfFrom 0 (length bytes) bytes → past_first bytes ≡ 0
 none_past bytes none = let e = ap length (first_of_alone bytes (no_lf_all bytes none)).0 in omega (arith, e)
 
--- how much stands behind a first line
+-- how much stands after a first line
 line_past : (end : ℕ) (bytes : List ℕ) → LineAt 0 end bytes → past_first bytes ≡ length bytes - end
 line_past end bytes at =
     let e = ap length (nth_here 0 bytes _ (nth_first end bytes [] at)) in
@@ -149,7 +149,7 @@ moves_text e row end old mid chunk chunk' p (inr last) some good utf8 is =
       reads = p.takes;
       gives = gives_last e row end old mid p last more good;
       chunk = is;
-      tells = (is_last end mid last more utf8, inr (only_behind e (row + 1) end mid last));
+      tells = (is_last end mid last more utf8, inr (only_after e (row + 1) end mid last));
       sizes = omega (arith, ap length p.bytes, grown, size, left, last.all);
       ahead = λ _. omega (arith, last.all, left);
       first = λ _. omega (arith, size, last.all, first_clean old.buffer mid.buffer p.taken p.bytes last.none);

@@ -56,7 +56,7 @@ under_named : (named : Named) (broken : Bool) (bytes : List ℕ)
 unfolding stream_under
 under_named named broken bytes = refl
 
--- an intake behind the byte order mark
+-- an intake after the byte order mark
 abbrev pub unmarked : Intake → Intake
 unmarked i = record { buffer = without_mark i.buffer; reach = i.reach; count = i.count }
 
@@ -187,7 +187,7 @@ refuses_head {x} {y} i Memory takes found = record {
 refuses_head i (UnsupportedEncoding place) takes found = absurd found
 refuses_head i (BomConflict place) takes found = absurd found
 
--- an intake behind the mark, as the code skips it
+-- an intake after the mark, as the code skips it
 pub unmarked_skip : (i : Intake) → has_mark i.buffer ≡ true → drop 3 i.buffer ≡ without_mark i.buffer
 unmarked_skip i e = rw e refl
 

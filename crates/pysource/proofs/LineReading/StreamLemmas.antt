@@ -79,7 +79,7 @@ comes_grown e row old mid p more broken =
     comes_is e row old (p.taken ++ more) broken
     ∙ ap (coming e.charset row broken) (sym (append_assoc old.buffer p.taken more) ∙ ap (λ (w : List ℕ). w ++ more) (sym p.bytes))
 
--- bytes cut behind a line
+-- bytes cut after a line
 cut_at : (n : ℕ) (bytes more : List ℕ) → bytes ++ more ≡ take n bytes ++ (drop n bytes ++ more)
 cut_at n bytes more = ap (λ (w : List ℕ). w ++ more) (sym (take-append-drop n bytes)) ∙ append_assoc (take n bytes) (drop n bytes) more
 
@@ -160,7 +160,7 @@ pub no_more : (xs : List ℕ) → length xs ≡ 0 → xs ≡ []
 no_more [] h = refl
 no_more (x ∷ xs) h = absurd (omega (arith, h))
 
--- nothing is left behind it
+-- nothing is left after it
 left_none : (end : ℕ) (mid : Intake) → LineLeft 0 end mid → drop end mid.buffer ≡ []
 left_none end mid left = no_more (drop end mid.buffer) (let size = length-drop end mid.buffer in omega (arith, left.all, size))
 
@@ -173,12 +173,12 @@ gives_last e row end old mid p left some good more broken f =
     let size = left_size end mid left in
     let none = at_end mid.reach more broken left.reach f in
     let empty : drop end mid.buffer ++ more ≡ [] = ap (λ (w : List ℕ). w ++ more) (left_none end mid left) ∙ none.0 in
-    let behind : coming e.charset (row + 1) false [] ≡ comes (held e (row + 1) None (skipped end mid)) more broken =
+    let following : coming e.charset (row + 1) false [] ≡ comes (held e (row + 1) None (skipped end mid)) more broken =
     sym (comes_is e (row + 1) (skipped end mid) more broken ∙ ap (coming e.charset (row + 1) broken) empty
     ∙ ap (λ (b : Bool). coming e.charset (row + 1) b []) none.1) in (
       follows_back old.reach more broken p.takes f,
       comes_grown e row old mid p more broken ∙ left_comes e row end mid left more broken f
-          ∙ coming_last e.charset row line (left_clean end mid left) (omega (arith, size)) good ∙ ap (onto line) behind,
+          ∙ coming_last e.charset row line (left_clean end mid left) (omega (arith, size)) good ∙ ap (onto line) following,
     )
 
 -- a faulty one
@@ -201,9 +201,9 @@ is_last end mid left some utf8 = let size = left_size end mid left in record {
   utf8 = utf8;
 }
 
--- Nothing comes behind it.
-pub only_behind : (e : Named) (row end : ℕ) (mid : Intake) → LineLeft 0 end mid → ComesOnly (held e row None (skipped end mid)) None
-only_behind e row end mid left more broken f =
+-- Nothing comes after it.
+pub only_after : (e : Named) (row end : ℕ) (mid : Intake) → LineLeft 0 end mid → ComesOnly (held e row None (skipped end mid)) None
+only_after e row end mid left more broken f =
     let none = at_end mid.reach more broken left.reach f in
     let empty : drop end mid.buffer ++ more ≡ [] = ap (λ (w : List ℕ). w ++ more) (left_none end mid left) ∙ none.0 in
     comes_is e row (skipped end mid) more broken ∙ ap (coming e.charset row broken) empty

@@ -11,7 +11,7 @@ use Rattle.std.proofs.lemmas.List.Sums.{suffix_len_is}
 use Rattle.std.proofs.lemmas.Str.{chars-append, encodes-chars, IsCharBoundary-at_seam, IsUtf8-take}
 use Rattle.pysource.specs.Places.{is_lf, place_after}
 use Rattle.pysource.specs.declared.places.Place.{Place}
-use Rattle.pysource.proofs.FaultyLines.CutLemmas.{NoLf, NoLf-cons, cut, count_none, count_behind, suffix_behind, after_last_behind}
+use Rattle.pysource.proofs.FaultyLines.CutLemmas.{NoLf, NoLf-cons, cut, count_none, count_after, suffix_after, after_last_after}
 use Rattle.pysource.proofs.FaultyLines.LinesLemmas.{line_text, rest_text}
 use Rattle.pysource.proofs.Offsets.PlacesLemmas.{after_last_none}
 use Rattle.pysource.proofs.Printing.PushReprLemmas.{has, some_character}
@@ -61,14 +61,14 @@ placed_last t u clean =
           ∙ omega (arith, whole),
     )
 
--- behind a line
+-- after a line
 placed_next : (front rest : List ℕ) → IsUtf8 ((front ++ 10 ∷ []) ++ rest) → NoLf front → Placed rest → Placed ((front ++ 10 ∷ []) ++ rest)
 placed_next front rest u clean p =
     let parts = line_chars front rest u in
-    let rows = count_behind (chars front) (chars rest) (no_lf_chars front parts.0 clean) in
-    let columns = suffix_behind (chars front) (chars rest) in (
-      count_behind front rest clean ∙ ap (λ (n : ℕ). 1 + n) p.0 ∙ sym rows ∙ ap (count_by is_lf) (sym parts.1),
-      ap (λ (x : List ℕ). length (chars x)) (after_last_behind front rest) ∙ p.1 ∙ sym columns
+    let rows = count_after (chars front) (chars rest) (no_lf_chars front parts.0 clean) in
+    let columns = suffix_after (chars front) (chars rest) in (
+      count_after front rest clean ∙ ap (λ (n : ℕ). 1 + n) p.0 ∙ sym rows ∙ ap (count_by is_lf) (sym parts.1),
+      ap (λ (x : List ℕ). length (chars x)) (after_last_after front rest) ∙ p.1 ∙ sym columns
           ∙ ap (suffix_len (λ c. not (is_lf c))) (sym parts.1),
     )
 

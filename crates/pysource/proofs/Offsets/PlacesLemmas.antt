@@ -9,7 +9,7 @@ use Rattle.pysource.specs.Places.{is_lf}
 use Rattle.std.specs.List.{after_last, suffix_len}
 use Rattle.std.proofs.lemmas.List.Sums.{suffix_len_is}
 
--- behind the last place that passes
+-- after the last place that passes
 pub after_last_at : (p : ℕ → Bool) (xs : List ℕ) (i : ℕ) → i < length xs → p (get_or xs i 0) ≡ true
     → ((k : ℕ) → i + 1 ≤ k → k < length xs → p (get_or xs k 0) ≡ false) → after_last p xs ≡ drop (i + 1) xs
 after_last_at p xs i fits here later =

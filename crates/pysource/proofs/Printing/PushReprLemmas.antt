@@ -158,7 +158,7 @@ character_pushed q c text rest out new whole utf8 cut so_far grown =
     ∙ encodes-append (f c) (flat_map f (chars rest)) in
     moved out new (encode_utf8_all (f c)) (inner q text) (inner q rest) whole so_far parts grown
 
--- the output behind the closing quote, where nothing is still to come
+-- the output after the closing quote, where nothing is still to come
 pub closed : (q : ℕ) (tail cs base old new : List ℕ) → length tail ≡ 0
     → old ++ inner q tail ≡ base ++ encode_utf8_all (q ∷ flat_map (escaped is_unprintable q) cs)
     → new ≡ old ++ encode_utf8_all (q ∷ []) → new ≡ base ++ encode_utf8_all (q ∷ flat_map (escaped is_unprintable q) cs ++ q ∷ [])
@@ -178,7 +178,7 @@ points_closed q [] points base old new empty so_far grown =
     end_encoded (escaped is_unprintable q) q points base old new (sym (append-nil old) ∙ so_far) grown
 points_closed q (c ∷ cs) points base old new empty so_far grown = absurd (omega (arith, empty))
 
--- the longest plain front is plain, and the text may be cut behind it
+-- the longest plain front is plain, and the text may be cut after it
 pub plain_prefix : (bs : List ℕ) → list_all is_plain (take (prefix_len is_plain bs) bs) ≡ true
 plain_prefix [] = refl
 plain_prefix (b ∷ bs) = elim (cases_Bool (is_plain b)) [

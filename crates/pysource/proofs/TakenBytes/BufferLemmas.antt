@@ -15,7 +15,7 @@ skip_view room from to count h =
     sym (ap (λ (n : ℕ). drop count (take n (drop from room))) whole ∙ drop-take count (to - (from + count)) (drop from room)
     ∙ ap (take (to - (from + count))) (drop-drop count from room))
 
--- what a read of n bytes behind the others makes of them
+-- what a read of n bytes after the others makes of them
 pub read_view : (room buf post : List ℕ) (from to n : ℕ) → from ≤ to → to ≤ length room → n ≤ length buf
     → take (to + n - from) (drop from (take to room ++ (buf ++ post))) ≡ take (to - from) (drop from room) ++ take n buf
 read_view room buf post from to n low high small =
@@ -43,7 +43,7 @@ pub put_size : (room buf : List ℕ) (to k : ℕ) → to + k ≤ length room →
 put_size room buf to k within size =
     let front = length-take-le to room (omega arith) in
     let back = length-drop k (drop to room) in
-    let behind = length-drop to room in
+    let following = length-drop to room in
     let first = length-append (take to room) (buf ++ drop k (drop to room)) in
     let then = length-append buf (drop k (drop to room)) in
-    omega (arith, front, back, behind, first, then, size)
+    omega (arith, front, back, following, first, then, size)

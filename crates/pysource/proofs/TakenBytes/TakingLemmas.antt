@@ -161,11 +161,11 @@ kept_or_full {x} {y} {s} {t} u e p same =
     let was : s.reach ≡ Reading = was_reading (subst (λ (r : Reach). ReadsBytes x y s.reach r s.count t.count p.taken) e p.takes) in
     elim (is_reading u.reach) [ inl is ↦ inl (is ∙ sym was) | inr not ↦ inr (sym (ap length (same not))) ]
 
--- no line feed stands up to where a search began, nor behind
+-- no line feed stands up to where a search began, nor after
 pub clean_on : (start from end : ℕ) (bytes : List ℕ) → NoLfFrom start from bytes → NoLfFrom from end bytes → NoLfFrom start end bytes
 clean_on start from end bytes p q k low high = elim (cases_lt k from) [ inl l ↦ p k low l | inr l ↦ q k l high ]
 
--- bytes behind change none before
+-- bytes after change none before
 pub clean_under : (start : ℕ) (bytes more : List ℕ) → NoLfFrom start (length bytes) bytes → NoLfFrom start (length bytes) (bytes ++ more)
 clean_under start bytes more p k low high e = p k low high (sym (get_or_append_left bytes more 0 k high) ∙ e)
 

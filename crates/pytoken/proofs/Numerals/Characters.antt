@@ -1,4 +1,4 @@
--- Which characters stand in a number: a sign stands behind an e alone.
+-- Which characters stand in a number: a sign stands after an e alone.
 -- Carries: Lexemes.
 use Rattle.std.proofs.Common.{◌≡◌, ℕ, zero, suc, ◌<◌, Bool, true, false, List, [], ◌∷◌, ◌++◌, refl, sym, subst, ap, inl, inr, arith}
 use Rattle.std.specs.Prelude.{◌||◌, ◌&&◌, ◌==◌}
@@ -19,31 +19,31 @@ use Rattle.pylex_lexeme.proofs.Callers.Numbers.{digit_bounds, either, part_all, 
 abbrev pub is_word : ℕ → Bool
 is_word c = (is_ascii_alphanumeric c || (c == 95)) || is_point c
 
--- Each sign stands behind an e, which may be what stands before the text.
+-- Each sign stands after an e, which may be what stands before the text.
 abbrev pub are_tied : Bool → List ℕ → Bool
-are_tied behind_e [] = true
-are_tied behind_e (c ∷ t) = (is_word c || (behind_e && is_sign c)) && are_tied (is_e c) t
+are_tied after_e [] = true
+are_tied after_e (c ∷ t) = (is_word c || (after_e && is_sign c)) && are_tied (is_e c) t
 
--- Signs behind an e
+-- Signs after an e
 
-tied_behind : (behind : Bool) (t : List ℕ) → are_tied false t ≡ true → are_tied behind t ≡ true
-tied_behind behind [] h = refl
-tied_behind behind (c ∷ t) h =
+tied_after : (following : Bool) (t : List ℕ) → are_tied false t ≡ true → are_tied following t ≡ true
+tied_after following [] h = refl
+tied_after following (c ∷ t) h =
     let parts = and_parts (is_word c || false) (are_tied (is_e c) t) h in
     let word : is_word c ≡ true = elim (or_cases (is_word c) false parts.0) [ inl is ↦ is | inr none ↦ absurd (false≢true none) ] in
-    and_from (is_word c || (behind && is_sign c)) (are_tied (is_e c) t) (or_left (is_word c) (behind && is_sign c) word) parts.1
+    and_from (is_word c || (following && is_sign c)) (are_tied (is_e c) t) (or_left (is_word c) (following && is_sign c) word) parts.1
 
-tied_append : (behind : Bool) (u v : List ℕ) → are_tied behind u ≡ true → are_tied false v ≡ true → are_tied behind (u ++ v) ≡ true
-tied_append behind [] v h k = tied_behind behind v k
-tied_append behind (c ∷ u) v h k =
-    let parts = and_parts (is_word c || (behind && is_sign c)) (are_tied (is_e c) u) h in
-    and_from (is_word c || (behind && is_sign c)) (are_tied (is_e c) (u ++ v)) parts.0 (tied_append (is_e c) u v parts.1 k)
+tied_append : (following : Bool) (u v : List ℕ) → are_tied following u ≡ true → are_tied false v ≡ true → are_tied following (u ++ v) ≡ true
+tied_append following [] v h k = tied_after following v k
+tied_append following (c ∷ u) v h k =
+    let parts = and_parts (is_word c || (following && is_sign c)) (are_tied (is_e c) u) h in
+    and_from (is_word c || (following && is_sign c)) (are_tied (is_e c) (u ++ v)) parts.0 (tied_append (is_e c) u v parts.1 k)
 
-words_tied : (behind : Bool) (t : List ℕ) → list_all is_word t ≡ true → are_tied behind t ≡ true
-words_tied behind [] h = refl
-words_tied behind (c ∷ t) h =
+words_tied : (following : Bool) (t : List ℕ) → list_all is_word t ≡ true → are_tied following t ≡ true
+words_tied following [] h = refl
+words_tied following (c ∷ t) h =
     let parts = and_parts (is_word c) (list_all is_word t) h in
-    and_from (is_word c || (behind && is_sign c)) (are_tied (is_e c) t) (or_left (is_word c) (behind && is_sign c) parts.0)
+    and_from (is_word c || (following && is_sign c)) (are_tied (is_e c) t) (or_left (is_word c) (following && is_sign c) parts.0)
     (words_tied (is_e c) t parts.1)
 
 -- a front and a rest
@@ -88,7 +88,7 @@ headed_ties f p word ties [] h = refl
 headed_ties f p word ties (c ∷ t) h =
     let parts = and_parts (f c) (p t) h in
     and_from (is_word c || false) (are_tied (is_e c) t) (or_left (is_word c) false (word c parts.0))
-    (tied_behind (is_e c) t (ties t parts.1))
+    (tied_after (is_e c) t (ties t parts.1))
 
 -- Digits and letters
 
@@ -130,7 +130,7 @@ signed_ties (c ∷ s ∷ t) h =
     let tied = or_right (is_word s) (is_e c && is_sign s) (and_from (is_e c) (is_sign s) first.0 second.0) in
     and_from (is_word c || false) (are_tied (is_e c) (s ∷ t)) (or_left (is_word c) false (e_word c first.0))
     (and_from (is_word s || (is_e c && is_sign s)) (are_tied (is_e s) t) tied
-    (tied_behind (is_e s) t (part_ties t second.1)))
+    (tied_after (is_e s) t (part_ties t second.1)))
 
 exponent_ties : Ties is_exponent
 unfolding is_exponent
@@ -139,11 +139,11 @@ exponent_ties t h = elim (or_cases (headed is_e is_digit_part t) (headed is_e (h
   | inr signed ↦ signed_ties t signed
 ]
 
-abbrev behind_point : List ℕ → Bool
-behind_point t = split_any (optional is_digit_part) (optional is_exponent) t
+abbrev following_point : List ℕ → Bool
+following_point t = split_any (optional is_digit_part) (optional is_exponent) t
 
-behind_ties : Ties behind_point
-behind_ties =
+after_ties : Ties following_point
+after_ties =
     split_ties (optional is_digit_part) (optional is_exponent) (optional_ties is_digit_part part_ties)
     (optional_ties is_exponent exponent_ties)
 
@@ -152,7 +152,7 @@ unfolding is_float is_point_after is_point_before is_raised
 float_ties t h = elim (or_cases (is_point_after t || is_point_before t) (is_raised t) h) [
   | inl pointed ↦ elim (or_cases (is_point_after t) (is_point_before t) pointed) [
     | inl after ↦
-        split_ties is_digit_part (headed is_point behind_point) part_ties (headed_ties is_point behind_point point_word behind_ties) t after
+        split_ties is_digit_part (headed is_point following_point) part_ties (headed_ties is_point following_point point_word after_ties) t after
     | inr before ↦
         headed_ties is_point (split_any is_digit_part (optional is_exponent)) point_word
         (split_ties is_digit_part (optional is_exponent) part_ties (optional_ties is_exponent exponent_ties)) t before
@@ -211,22 +211,22 @@ number_ties t h = elim (or_cases (is_decimal t || is_radix t || is_float t) (is_
 pub word_low : (c : ℕ) → is_word c ≡ true → c < 128
 word_low c h = grind (arith, nat_tests)
 
-tied_low : (c : ℕ) (behind : Bool) → (is_word c || (behind && is_sign c)) ≡ true → c < 128
-tied_low c behind h = elim (or_cases (is_word c) (behind && is_sign c) h) [
+tied_low : (c : ℕ) (following : Bool) → (is_word c || (following && is_sign c)) ≡ true → c < 128
+tied_low c following h = elim (or_cases (is_word c) (following && is_sign c) h) [
   | inl word ↦ word_low c word
-  | inr both ↦ let sign = (and_parts behind (is_sign c) both).1 in grind (arith, nat_tests)
+  | inr both ↦ let sign = (and_parts following (is_sign c) both).1 in grind (arith, nat_tests)
 ]
 
-tied_ascii : (behind : Bool) (t : List ℕ) → are_tied behind t ≡ true → IsAscii t
-tied_ascii behind [] h i = omega arith
-tied_ascii behind (c ∷ t) h zero = tied_low c behind (and_parts (is_word c || (behind && is_sign c)) (are_tied (is_e c) t) h).0
-tied_ascii behind (c ∷ t) h (suc i) = tied_ascii (is_e c) t (and_parts (is_word c || (behind && is_sign c)) (are_tied (is_e c) t) h).1 i
+tied_ascii : (following : Bool) (t : List ℕ) → are_tied following t ≡ true → IsAscii t
+tied_ascii following [] h i = omega arith
+tied_ascii following (c ∷ t) h zero = tied_low c following (and_parts (is_word c || (following && is_sign c)) (are_tied (is_e c) t) h).0
+tied_ascii following (c ∷ t) h (suc i) = tied_ascii (is_e c) t (and_parts (is_word c || (following && is_sign c)) (are_tied (is_e c) t) h).1 i
 
-tied_scalars : (behind : Bool) (t : List ℕ) → are_tied behind t ≡ true → all_scalars t ≡ true
-tied_scalars behind [] h = refl
-tied_scalars behind (c ∷ t) h =
-    let parts = and_parts (is_word c || (behind && is_sign c)) (are_tied (is_e c) t) h in
-    let low = tied_low c behind parts.0 in
+tied_scalars : (following : Bool) (t : List ℕ) → are_tied following t ≡ true → all_scalars t ≡ true
+tied_scalars following [] h = refl
+tied_scalars following (c ∷ t) h =
+    let parts = and_parts (is_word c || (following && is_sign c)) (are_tied (is_e c) t) h in
+    let low = tied_low c following parts.0 in
     and_from (scalar c) (all_scalars t) (low_scalar c (omega arith)) (tied_scalars (is_e c) t parts.1)
 
 -- each character of a number is ASCII, and so a scalar

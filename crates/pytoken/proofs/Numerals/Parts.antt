@@ -53,9 +53,9 @@ power_exponent t h = elim (or_cases (headed is_e are_digits t) (headed is_e (hea
       or_left (headed is_e is_digit_part t) (headed is_e (headed is_sign is_digit_part) t)
       (headed_more is_e are_digits is_digit_part digits_part t bare)
   | inr signed ↦
-      let behind_sign = headed_more is_sign are_digits is_digit_part digits_part in
+      let following_sign = headed_more is_sign are_digits is_digit_part digits_part in
       or_right (headed is_e is_digit_part t) (headed is_e (headed is_sign is_digit_part) t)
-      (headed_more is_e (headed is_sign are_digits) (headed is_sign is_digit_part) behind_sign t signed)
+      (headed_more is_e (headed is_sign are_digits) (headed is_sign is_digit_part) following_sign t signed)
 ]
 
 raised_float : (w x : List ℕ) → are_digits w ≡ true → is_power x ≡ true → is_float (w ++ x) ≡ true
@@ -64,14 +64,14 @@ raised_float w x h k =
     or_right (is_point_after (w ++ x) || is_point_before (w ++ x)) (is_raised (w ++ x))
     (split_at is_digit_part is_exponent w x (digits_part w h) (power_exponent x k))
 
-abbrev behind_point : List ℕ → Bool
-behind_point t = split_any (optional is_digit_part) (optional is_exponent) t
+abbrev following_point : List ℕ → Bool
+following_point t = split_any (optional is_digit_part) (optional is_exponent) t
 
-pointed_rest : (f x : List ℕ) → is_fraction f ≡ true → optional is_power x ≡ true → headed is_point behind_point (f ++ x) ≡ true
+pointed_rest : (f x : List ℕ) → is_fraction f ≡ true → optional is_power x ≡ true → headed is_point following_point (f ++ x) ≡ true
 pointed_rest [] x h k = absurd (true≢false (sym h))
 pointed_rest (c ∷ f) x h k =
     let parts = and_parts (is_point c) (are_digits f) h in
-    and_from (is_point c) (behind_point (f ++ x)) parts.0
+    and_from (is_point c) (following_point (f ++ x)) parts.0
     (split_at (optional is_digit_part) (optional is_exponent) f x (some f parts.1) (optional_more is_power is_exponent power_exponent x k))
   where
     some : (f : List ℕ) → are_digits f ≡ true → optional is_digit_part f ≡ true
@@ -84,7 +84,7 @@ pointed_float w f x h k l =
     let t = w ++ (f ++ x) in
     or_left (is_point_after t || is_point_before t) (is_raised t)
     (or_left (is_point_after t) (is_point_before t)
-    (split_at is_digit_part (headed is_point behind_point) w (f ++ x) (digits_part w h) (pointed_rest f x k l)))
+    (split_at is_digit_part (headed is_point following_point) w (f ++ x) (digits_part w h) (pointed_rest f x k l)))
 
 float_of : (w f x : List ℕ) → are_digits w ≡ true → optional is_fraction f ≡ true → optional is_power x ≡ true → is_nil (f ++ x) ≡ false
     → is_float (w ++ (f ++ x)) ≡ true

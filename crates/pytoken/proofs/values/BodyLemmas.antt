@@ -1,4 +1,4 @@
--- Carries: behind_prefix, has_three, after_opening, body. On: the parts of a literal that is lent from its source.
+-- Carries: following_prefix, has_three, after_opening, body. On: the parts of a literal that is lent from its source.
 use Rattle.std.proofs.Common.{◌≡◌, ℕ, true, false, List, [], ◌∷◌, drop, slice_get, refl, sym, ap, ◌∙◌}
 use Rattle.std.specs.Prelude.{◌==◌, ◌&&◌}
 use Rattle.pylex_lexeme.specs.Strings.{begins_three}

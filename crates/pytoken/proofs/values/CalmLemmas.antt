@@ -15,64 +15,64 @@ use Rattle.pytoken.specs.Inner.Readings.{asks, is_doubtful, is_calm}
 use Rattle.pytoken.proofs.values.LiteralLemmas.{fault_none, literal_sound}
 
 -- what a character is that may not be wrong
-record Sure (bytes behind : Bool) (c : ℕ) : Type 0 where
-  asks : (behind && asks c) ≡ false
+record Sure (bytes following : Bool) (c : ℕ) : Type 0 where
+  asks : (following && asks c) ≡ false
   low : (bytes && nat_lt 0x7F c) ≡ false
   nul : (c == 0) ≡ false
   return : (c == 13) ≡ false
 
-sure : (bytes behind : Bool) (c : ℕ) → not (is_doubtful bytes behind c) ≡ true → Sure bytes behind c
-sure bytes behind c is =
-    let one = or_parts (behind && asks c) ((bytes && nat_lt 0x7F c) || ((c == 0) || (c == 13)))
-    (not-true (is_doubtful bytes behind c) is) in
+sure : (bytes following : Bool) (c : ℕ) → not (is_doubtful bytes following c) ≡ true → Sure bytes following c
+sure bytes following c is =
+    let one = or_parts (following && asks c) ((bytes && nat_lt 0x7F c) || ((c == 0) || (c == 13)))
+    (not-true (is_doubtful bytes following c) is) in
     let two = or_parts (bytes && nat_lt 0x7F c) ((c == 0) || (c == 13)) one.1 in
     let three = or_parts (c == 0) (c == 13) two.1 in
     record { asks = one.0; low = two.0; nul = three.0; return = three.1 }
 
--- the first character of a calm text, and those behind it
-record Parts (bytes behind : Bool) (c : ℕ) (cs : List ℕ) : Type 0 where
-  first : Sure bytes behind c
+-- the first character of a calm text, and those after it
+record Parts (bytes following : Bool) (c : ℕ) (cs : List ℕ) : Type 0 where
+  first : Sure bytes following c
   rest : is_calm bytes (c == 92) cs ≡ true
 
-parts : (bytes behind : Bool) (c : ℕ) (cs : List ℕ) → is_calm bytes behind (c ∷ cs) ≡ true → Parts bytes behind c cs
-parts bytes behind c cs calm =
-    let both = and_parts (not (is_doubtful bytes behind c)) (is_calm bytes (c == 92) cs) calm in
-    record { first = sure bytes behind c both.0; rest = both.1 }
+parts : (bytes following : Bool) (c : ℕ) (cs : List ℕ) → is_calm bytes following (c ∷ cs) ≡ true → Parts bytes following c cs
+parts bytes following c cs calm =
+    let both = and_parts (not (is_doubtful bytes following c)) (is_calm bytes (c == 92) cs) calm in
+    record { first = sure bytes following c both.0; rest = both.1 }
 
 -- one character off the front
 
-pub calm_stops : (bytes behind : Bool) (c : ℕ) (t u : List ℕ) → t ≡ c ∷ u → is_doubtful bytes behind c ≡ true
-    → is_calm bytes behind t ≡ false
-calm_stops bytes behind c t u e doubt = ap (is_calm bytes behind) e ∙ (rw doubt refl)
+pub calm_stops : (bytes following : Bool) (c : ℕ) (t u : List ℕ) → t ≡ c ∷ u → is_doubtful bytes following c ≡ true
+    → is_calm bytes following t ≡ false
+calm_stops bytes following c t u e doubt = ap (is_calm bytes following) e ∙ (rw doubt refl)
 
-pub calm_goes : (bytes behind : Bool) (c : ℕ) (t u : List ℕ) → t ≡ c ∷ u → is_doubtful bytes behind c ≡ false →
-    is_calm bytes (c == 92) u ≡ is_calm bytes behind t
-calm_goes bytes behind c t u e sure = sym (ap (is_calm bytes behind) e ∙ (rw sure refl))
+pub calm_goes : (bytes following : Bool) (c : ℕ) (t u : List ℕ) → t ≡ c ∷ u → is_doubtful bytes following c ≡ false →
+    is_calm bytes (c == 92) u ≡ is_calm bytes following t
+calm_goes bytes following c t u e sure = sym (ap (is_calm bytes following) e ∙ (rw sure refl))
 
--- a text that is calm behind a backslash is calm elsewhere
-fewer : (behind : Bool) (bytes : Bool) (c : ℕ) → not (is_doubtful bytes behind c) ≡ true → not (is_doubtful bytes false c) ≡ true
+-- a text that is calm after a backslash is calm elsewhere
+fewer : (following : Bool) (bytes : Bool) (c : ℕ) → not (is_doubtful bytes following c) ≡ true → not (is_doubtful bytes false c) ≡ true
 fewer false bytes c is = is
 fewer true bytes c is =
     let rest = (or_parts (asks c) ((bytes && nat_lt 0x7F c) || ((c == 0) || (c == 13))) (not-true (is_doubtful bytes true c) is)).1 in
     rw rest refl
 
-anywhere : (bytes behind : Bool) (cs : List ℕ) → is_calm bytes behind cs ≡ true → is_calm bytes false cs ≡ true
-anywhere bytes behind [] calm = refl
-anywhere bytes behind (c ∷ cs) calm =
-    let both = and_parts (not (is_doubtful bytes behind c)) (is_calm bytes (c == 92) cs) calm in
-    and_from (not (is_doubtful bytes false c)) (is_calm bytes (c == 92) cs) (fewer behind bytes c both.0) both.1
+anywhere : (bytes following : Bool) (cs : List ℕ) → is_calm bytes following cs ≡ true → is_calm bytes false cs ≡ true
+anywhere bytes following [] calm = refl
+anywhere bytes following (c ∷ cs) calm =
+    let both = and_parts (not (is_doubtful bytes following c)) (is_calm bytes (c == 92) cs) calm in
+    and_from (not (is_doubtful bytes false c)) (is_calm bytes (c == 92) cs) (fewer following bytes c both.0) both.1
 
 calm_drop : (bytes : Bool) (n : ℕ) (cs : List ℕ) → is_calm bytes false cs ≡ true → is_calm bytes false (drop n cs) ≡ true
 calm_drop bytes zero cs calm = calm
 calm_drop bytes (suc n) [] calm = refl
 calm_drop bytes (suc n) (c ∷ cs) calm = calm_drop bytes n cs (anywhere bytes (c == 92) cs (parts bytes false c cs calm).rest)
 
-calm_take : (bytes behind : Bool) (n : ℕ) (cs : List ℕ) → is_calm bytes behind cs ≡ true → is_calm bytes behind (take n cs) ≡ true
-calm_take bytes behind zero cs calm = refl
-calm_take bytes behind (suc n) [] calm = refl
-calm_take bytes behind (suc n) (c ∷ cs) calm =
-    let both = and_parts (not (is_doubtful bytes behind c)) (is_calm bytes (c == 92) cs) calm in
-    and_from (not (is_doubtful bytes behind c)) (is_calm bytes (c == 92) (take n cs)) both.0 (calm_take bytes (c == 92) n cs both.1)
+calm_take : (bytes following : Bool) (n : ℕ) (cs : List ℕ) → is_calm bytes following cs ≡ true → is_calm bytes following (take n cs) ≡ true
+calm_take bytes following zero cs calm = refl
+calm_take bytes following (suc n) [] calm = refl
+calm_take bytes following (suc n) (c ∷ cs) calm =
+    let both = and_parts (not (is_doubtful bytes following c)) (is_calm bytes (c == 92) cs) calm in
+    and_from (not (is_doubtful bytes following c)) (is_calm bytes (c == 92) (take n cs)) both.0 (calm_take bytes (c == 92) n cs both.1)
 
 calm_body : (bytes : Bool) (t : List ℕ) → is_calm bytes false t ≡ true → is_calm bytes false (body_of t) ≡ true
 calm_body bytes t calm =
@@ -86,11 +86,11 @@ record Told (p : Meaning → Bool) : Type 0 where
   point : (m : ℕ) → p (Point m) ≡ false
   nothing : p Nothing ≡ false
 
--- what a backslash stands for by the point of the letter behind it
+-- what a backslash stands for by the point of the letter after it
 abbrev by_point : Option ℕ → Reading
 by_point o = elim o [ Some q ↦ reads (Point q) 1 | None ↦ reads (Point 92) 0 ]
 
--- what a backslash stands for isn't wrong where the character behind it doesn't ask
+-- what a backslash stands for isn't wrong where the character after it doesn't ask
 calm_letter : (p : Meaning → Bool) → Told p → (bytes : Bool) (c : ℕ) (cs : List ℕ) → is_digit c 8 ≡ false → (c == 120) ≡ false →
     (c == 117) ≡ false → (c == 85) ≡ false → (c == 78) ≡ false
     → p (escaped_by bytes (c ∷ cs)).meaning ≡ false
@@ -148,25 +148,25 @@ calm_escapes raw bytes cs calm =
     (calm_meanings is_named_escape (record { point = λ m. refl; nothing = refl }) raw bytes 0 cs calm)
     (calm_meanings is_bad_escape (record { point = λ m. refl; nothing = refl }) raw bytes 0 cs calm)
 
-calm_low : (bytes behind : Bool) (t : List ℕ) → is_calm bytes behind t ≡ true → (bytes && list_any (nat_lt 0x7F) t) ≡ false
-calm_low false behind t calm = refl
-calm_low true behind [] calm = refl
-calm_low true behind (c ∷ cs) calm =
-    let p = parts true behind c cs calm in
+calm_low : (bytes following : Bool) (t : List ℕ) → is_calm bytes following t ≡ true → (bytes && list_any (nat_lt 0x7F) t) ≡ false
+calm_low false following t calm = refl
+calm_low true following [] calm = refl
+calm_low true following (c ∷ cs) calm =
+    let p = parts true following c cs calm in
     let low = p.first.low in
     rw low (calm_low true (c == 92) cs p.rest)
 
-calm_nul : (bytes behind : Bool) (t : List ℕ) → is_calm bytes behind t ≡ true → list_any (λ c. c == 0) t ≡ false
-calm_nul bytes behind [] calm = refl
-calm_nul bytes behind (c ∷ cs) calm =
-    let p = parts bytes behind c cs calm in
+calm_nul : (bytes following : Bool) (t : List ℕ) → is_calm bytes following t ≡ true → list_any (λ c. c == 0) t ≡ false
+calm_nul bytes following [] calm = refl
+calm_nul bytes following (c ∷ cs) calm =
+    let p = parts bytes following c cs calm in
     let nul = p.first.nul in
     rw nul (calm_nul bytes (c == 92) cs p.rest)
 
-calm_feeds : (bytes behind : Bool) (t : List ℕ) → is_calm bytes behind t ≡ true → with_line_feeds t ≡ t
-calm_feeds bytes behind [] calm = refl
-calm_feeds bytes behind (c ∷ cs) calm =
-    let p = parts bytes behind c cs calm in
+calm_feeds : (bytes following : Bool) (t : List ℕ) → is_calm bytes following t ≡ true → with_line_feeds t ≡ t
+calm_feeds bytes following [] calm = refl
+calm_feeds bytes following (c ∷ cs) calm =
+    let p = parts bytes following c cs calm in
     let return = p.first.return in
     rw return (ap (λ (u : List ℕ). c ∷ u) (calm_feeds bytes (c == 92) cs p.rest))
 

@@ -12,13 +12,13 @@ use Rattle.std.proofs.lemmas.List.Sums.{take_while-cons}
 use Rattle.pytoken.specs.Escapes.{digits_at_front}
 use Rattle.pytoken.specs.Inner.Readings.{first_digit}
 
--- a digit stands at the front, and others may behind it
+-- a digit stands at the front, and others may after it
 pub record Further (radix k d : ℕ) (t : List ℕ) : Type 0 where
   pub below : d < radix
   pub value : (n : ℕ) → digits_value_after radix n (digits_at_front radix (suc k) t)
       ≡ digits_value_after radix (n * radix + d) (digits_at_front radix k (drop 1 t))
   pub count : length (digits_at_front radix (suc k) t) ≡ suc (length (digits_at_front radix k (drop 1 t)))
-  pub behind : drop (length (digits_at_front radix (suc k) t)) t ≡ drop (length (digits_at_front radix k (drop 1 t))) (drop 1 t)
+  pub following : drop (length (digits_at_front radix (suc k) t)) t ≡ drop (length (digits_at_front radix k (drop 1 t))) (drop 1 t)
 
 pub further : (radix k d : ℕ) (t : List ℕ) → first_digit radix t ≡ Some d → Further radix k d t
 further radix k d [] e = absurd (cc)
@@ -34,7 +34,7 @@ further radix k d (c ∷ cs) e = elim (cases_Bool (nat_lt (digit_value c) radix)
         value = λ n. ap (digits_value_after radix n) front
             ∙ ap (λ (v : ℕ). digits_value_after radix (n * radix + v) (digits_at_front radix k cs)) is;
         count = ap length front;
-        behind = ap (λ (ds : List ℕ). drop (length ds) (c ∷ cs)) front;
+        following = ap (λ (ds : List ℕ). drop (length ds) (c ∷ cs)) front;
       }
   | inr other ↦ absurd (let none : None ≡ Some d = rw other at e in cc)
 ]
@@ -54,7 +54,7 @@ pub record Far (radix most count value : ℕ) (t start : List ℕ) : Type 0 wher
   pub whole : count + left ≡ most
   pub values : digits_value_after radix value (digits_at_front radix left t) ≡ digits_value_after radix 0 (digits_at_front radix most start)
   pub counts : count + length (digits_at_front radix left t) ≡ length (digits_at_front radix most start)
-  pub behind : drop (length (digits_at_front radix left t)) t ≡ drop (length (digits_at_front radix most start)) start
+  pub following : drop (length (digits_at_front radix left t)) t ≡ drop (length (digits_at_front radix most start)) start
   pub bound : value < 16 ^ count
 
 pub far_start : (radix most : ℕ) (t : List ℕ) → Far radix most 0 0 t t
@@ -63,7 +63,7 @@ far_start radix most t = record {
   whole = omega arith;
   values = refl;
   counts = omega arith;
-  behind =
+  following =
       refl;
   bound = omega arith;
 }
@@ -103,8 +103,8 @@ far_on radix most count value d t start new far more high e cut = go far.left re
               ap (digits_value_after radix (value * radix + d)) there ∙ sym (f.value value)
               ∙ ap (digits_value_after radix value) here ∙ far.values;
           counts = omega (arith, ap length there, f.count, ap length here, far.counts);
-          behind = ap₂ (λ (ds u : List ℕ). drop (length ds) u) there cut ∙ sym f.behind
-              ∙ ap (λ (ds : List ℕ). drop (length ds) t) here ∙ far.behind;
+          following = ap₂ (λ (ds u : List ℕ). drop (length ds) u) there cut ∙ sym f.following
+              ∙ ap (λ (ds : List ℕ). drop (length ds) t) here ∙ far.following;
           bound = omega (arith, far.bound, power, product, f.below, one);
         }
 
@@ -116,7 +116,7 @@ pub far_end : (radix most count value : ℕ) (t start : List ℕ) → (far : Far
 far_end radix most count value t start far none = (
   omega (arith, ap length none, far.counts),
   sym (ap (digits_value_after radix value) none) ∙ far.values,
-  sym (ap (λ (ds : List ℕ). drop (length ds) t) none) ∙ far.behind,
+  sym (ap (λ (ds : List ℕ). drop (length ds) t) none) ∙ far.following,
 )
 
 pub none_wanted : (radix most count value : ℕ) (t start : List ℕ) → (far : Far radix most count value t start) → most ≤ count →

@@ -60,7 +60,7 @@ first_assoc a b c = by_named a b c (is_named_fault a) refl
     by_named a b c true named_is = rw named_is (rw named_is refl)
     by_named a b c false other = rw other (unnamed a b c other)
 
--- no fault behind one
+-- no fault after one
 
 last_none : (fault : Option TokenError) → first_escape_fault fault None ≡ fault
 last_none fault = by_named fault (is_named_fault fault)
@@ -73,7 +73,7 @@ no_texts : escape_fault [] ≡ None
 unfolding escape_fault
 no_texts = refl
 
--- The first fault in the texts of some items, by that in those before a place, and that in the others: behind one more, and at the end.
+-- The first fault in the texts of some items, by that in those before a place, and that in the others: after one more, and at the end.
 
 pub faults_one : {C D : Type 0} (g : C → List Meaning) (h : D → C) (xs : List D) (i : ℕ) (x : D)
     (fault more next whole : Option TokenError) →

@@ -1,4 +1,4 @@
--- Escapes, by the letter behind the backslash.
+-- Escapes, by the letter after the backslash.
 --
 -- Carries: escape.
 use Rattle.std.proofs.Common.{◌≡◌, ℕ, ◌<◌, ◌≤◌, Bool, true, false, List, ◌∷◌, drop, refl, sym, subst, ap, ◌∙◌, inl, inr, arith, Some}

@@ -19,7 +19,7 @@ Fault = Kind → List ℕ → Option TokenError
 abbrev pub is_faulty_token : Fault → FieldToken → Bool
 is_faulty_token fault x = is_some (fault x.kind x.text)
 
--- behind n tokens that have no fault, with the terminals that they are behind those of the start
+-- after n tokens that have no fault, with the terminals that they are after those of the start
 pub record Reads (g : FieldToken → List Terminal) (fault : Fault) (start now : List Terminal) (text : List ℕ) (n : ℕ) : Type 0 where
   pub terminals : now ++ flat_map g (tokens_ahead text n) ≡ start ++ flat_map g (field_tokens text)
   pub faults : list_any (is_faulty_token fault) (tokens_ahead text n) ≡ list_any (is_faulty_token fault) (field_tokens text)

@@ -24,7 +24,7 @@ use Rattle.pytoken.proofs.Callers.Said.{points_small}
 use Rattle.pytoken.specs.StringValues.{is_unicode, with_line_feeds, points_of, value_of, string_value, string_fault, is_quote}
 use Rattle.pytoken.specs.StringValues.{prefix_len_of}
 use Rattle.pytoken.specs.StringValues.{is_marked, is_raw, is_bytes, is_formatted, body_of, without_last, nul_fault, literal_fault}
-use Rattle.pytoken.specs.Inner.Readings.{first_meaning, behind_meaning}
+use Rattle.pytoken.specs.Inner.Readings.{first_meaning, after_meaning}
 
 later : (raw bytes : Bool) (n : ℕ) (cs : List ℕ) → meanings_after raw bytes n cs ≡ meanings_after raw bytes 0 (drop n cs)
 later raw bytes zero cs = refl
@@ -32,7 +32,7 @@ later raw bytes (suc n) [] = refl
 later raw bytes (suc n) (c ∷ cs) = later raw bytes n cs
 
 pub meanings_step : (raw bytes : Bool) (t : List ℕ) (m : Meaning) → first_meaning raw bytes t ≡ Some m →
-    meanings raw bytes t ≡ m ∷ meanings raw bytes (behind_meaning raw bytes t)
+    meanings raw bytes t ≡ m ∷ meanings raw bytes (after_meaning raw bytes t)
 unfolding meanings
 meanings_step raw bytes [] m e = absurd (cc)
 meanings_step raw bytes (c ∷ cs) m e =
@@ -44,18 +44,18 @@ unfolding meanings
 meanings_end raw bytes [] e = refl
 meanings_end raw bytes (c ∷ cs) e = absurd (cc)
 
-pub shorter : (raw bytes : Bool) (t new : List ℕ) (m : Meaning) → first_meaning raw bytes t ≡ Some m → new ≡ behind_meaning raw bytes t →
+pub shorter : (raw bytes : Bool) (t new : List ℕ) (m : Meaning) → first_meaning raw bytes t ≡ Some m → new ≡ after_meaning raw bytes t →
     length new < length t
 shorter raw bytes [] new m e cut = absurd (cc)
 shorter raw bytes (c ∷ cs) new m e cut = omega (arith, ap length cut, length-drop (reading raw bytes c cs).more cs)
 
 -- the points so far, and those to come
 pub points_on : (raw bytes : Bool) (t new : List ℕ) (m : Meaning) (out more whole : List ℕ) → first_meaning raw bytes t ≡ Some m →
-    new ≡ behind_meaning raw bytes t → more ≡ out ++ points_in m
+    new ≡ after_meaning raw bytes t → more ≡ out ++ points_in m
     → out ++ flat_map points_in (meanings raw bytes t) ≡ whole → more ++ flat_map points_in (meanings raw bytes new) ≡ whole
 points_on raw bytes t new m out more whole e cut grown so_far =
     ap₂ (λ (xs ys : List ℕ). xs ++ flat_map points_in (meanings raw bytes ys)) grown cut
-    ∙ append_assoc out (points_in m) (flat_map points_in (meanings raw bytes (behind_meaning raw bytes t)))
+    ∙ append_assoc out (points_in m) (flat_map points_in (meanings raw bytes (after_meaning raw bytes t)))
     ∙ sym (ap (λ (ms : List Meaning). out ++ flat_map points_in ms) (meanings_step raw bytes t m e)) ∙ so_far
 
 pub points_end : (raw bytes : Bool) (t out whole : List ℕ) → first_meaning raw bytes t ≡ None →
@@ -65,7 +65,7 @@ points_end raw bytes t out whole e so_far =
 
 -- whether some meaning passes a test
 pub any_on : (p : Meaning → Bool) (raw bytes : Bool) (t new : List ℕ) (m : Meaning) (b whole : Bool) → first_meaning raw bytes t ≡ Some m →
-    new ≡ behind_meaning raw bytes t
+    new ≡ after_meaning raw bytes t
     → (b || list_any p (meanings raw bytes t)) ≡ whole → ((b || p m) || list_any p (meanings raw bytes new)) ≡ whole
 any_on p raw bytes t new m b whole e cut so_far =
     let step = ap (list_any p) (meanings_step raw bytes t m e) in
@@ -165,13 +165,13 @@ pub literal_sound : (t : List ℕ) → is_formatted t ≡ false → escape_fault
 unfolding literal_fault nul_fault
 literal_sound t f escape low none = rw (f, escape, low, none) refl
 
--- what all points of a text pass, the next ones do, and those behind
+-- what all points of a text pass, the next ones do, and those after
 pub parts_on : (p : ℕ → Bool) (raw bytes : Bool) (t new : List ℕ) (m : Meaning) → first_meaning raw bytes t ≡ Some m →
-    new ≡ behind_meaning raw bytes t
+    new ≡ after_meaning raw bytes t
     → list_all p (flat_map points_in (meanings raw bytes t)) ≡ true →
     (list_all p (points_in m) ≡ true) × (list_all p (flat_map points_in (meanings raw bytes new)) ≡ true)
 parts_on p raw bytes t new m e cut all =
-    let rest = flat_map points_in (meanings raw bytes (behind_meaning raw bytes t)) in
+    let rest = flat_map points_in (meanings raw bytes (after_meaning raw bytes t)) in
     let step = ap (λ (ms : List Meaning). list_all p (flat_map points_in ms)) (meanings_step raw bytes t m e)
     ∙ list_all-append p (points_in m) rest in
     let parts = and_parts (list_all p (points_in m)) (list_all p rest) (sym step ∙ all) in

@@ -16,7 +16,7 @@ use Rattle.pytoken.proofs.NumberKinds.{in_both}
 
 -- The value of digits, one after another
 
--- the value with the digits of a text behind it
+-- the value with the digits of a text after it
 abbrev pub value_on : ℕ → ℕ → List ℕ → ℕ
 value_on radix value t = digits_value_after radix value (filter is_no_underscore t)
 

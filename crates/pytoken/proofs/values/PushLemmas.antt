@@ -42,7 +42,7 @@ pub then_grows : {A B X E : Type 0} (f : A → B) (a b c : List A) (x y : List B
 then_grows f a b c x y (Ok v) one two = grows_both f a b c x y one two
 then_grows f a b c x y (Err e) one two = tt
 
--- Behind what was appended for some items, what is still to come for the others makes all.
+-- After what was appended for some items, what is still to come for the others makes all.
 abbrev pub Leaves : {A B C : Type 0} → (A → B) → (C → List B) → List A → List A → List C → List C → Type 0
 Leaves f g start now all left = map f now ++ flat_map g left ≡ map f start ++ flat_map g all
 

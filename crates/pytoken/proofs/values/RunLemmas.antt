@@ -10,7 +10,7 @@ use Rattle.pylex_lexeme.proofs.Callers.Lexemes.{at_one}
 use Rattle.pytoken.specs.declared.meanings.Meaning.{Meaning}
 use Rattle.pytoken.specs.Escapes.{meanings}
 use Rattle.pytoken.specs.StringValues.{is_quote, is_marked, inside, body_of}
-use Rattle.pytoken.specs.Inner.Readings.{first_meaning, behind_meaning, is_own, stands, is_bare, body_points}
+use Rattle.pytoken.specs.Inner.Readings.{first_meaning, after_meaning, is_own, stands, is_bare, body_points}
 use Rattle.pytoken.proofs.values.LiteralLemmas.{shorter, prefix_stops}
 
 no_escape : (raw : Bool) (c : ℕ) → stands raw c ≡ true → (not raw && (c == 92)) ≡ false
@@ -58,7 +58,7 @@ cut_on raw bytes t run rest out more whole cut grown so_far =
     ap (λ (x : List ℕ). x ++ body_points raw bytes rest) grown ∙ append_assoc out run (body_points raw bytes rest)
     ∙ sym (ap (λ (x : List ℕ). out ++ x) (cut_points raw bytes t run rest cut)) ∙ so_far
 
--- what all points of a body pass, those behind the run do
+-- what all points of a body pass, those after the run do
 pub cut_parts : (p : ℕ → Bool) (raw bytes : Bool) (t run rest : List ℕ) → Cut raw t run rest → list_all p (body_points raw bytes t) ≡ true
     → list_all p (body_points raw bytes rest) ≡ true
 cut_parts p raw bytes t run rest cut all =
@@ -66,10 +66,10 @@ cut_parts p raw bytes t run rest cut all =
     (and_parts (list_all p run) (list_all p (body_points raw bytes rest)) (sym split ∙ all)).1
 
 pub cut_shorter : (raw bytes : Bool) (t next run rest : List ℕ) (m : Meaning) → first_meaning raw bytes t ≡ Some m
-    → next ≡ behind_meaning raw bytes t
+    → next ≡ after_meaning raw bytes t
     → Cut raw next run rest → length rest < length t
-cut_shorter raw bytes t next run rest m e behind cut =
-    omega (arith, shorter raw bytes t next m e behind, ap length cut.whole, length-append run rest)
+cut_shorter raw bytes t next run rest m e following cut =
+    omega (arith, shorter raw bytes t next m e following, ap length cut.whole, length-append run rest)
 
 -- where nothing is left, the run is the whole
 pub cut_whole : (raw bytes : Bool) (t run rest out : List ℕ) → Cut raw t run rest → rest ≡ [] → out ≡ run → out ≡ body_points raw bytes t

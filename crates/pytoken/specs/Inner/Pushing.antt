@@ -13,7 +13,7 @@ use Rattle.pytoken.specs.declared.values.terminals.TerminalFault.TheVariants.{To
 use Rattle.pytoken.specs.FormattedStrings as elements
 use Rattle.pytoken.specs.TerminalOf.{text_part}
 
--- behind some values stand further ones, which are these
+-- after some values stand further ones, which are these
 abbrev pub Grows : {A B : Type 0} → (A → B) → List A → List A → List B → Type 0
 Grows f old new more = map f new ≡ map f old ++ more
 

@@ -16,7 +16,7 @@ use Rattle.pytoken.specs.Escapes.{Reading, reading, meanings, points_in}
 -- a reading was made of the front of a text: what it means, and what is left of the text
 pub record ReadsEscape (r : Reading) (old : List ℕ) (m : Meaning) (new : List ℕ) : Type 0 where
   pub meaning : m ≡ r.meaning
-  pub behind : new ≡ drop r.more old
+  pub following : new ≡ drop r.more old
 
 -- the value of a digit at the front
 abbrev pub first_digit : ℕ → List ℕ → Option ℕ
@@ -27,9 +27,9 @@ abbrev pub first_meaning : Bool → Bool → List ℕ → Option Meaning
 first_meaning raw bytes [] = None
 first_meaning raw bytes (c ∷ cs) = Some (reading raw bytes c cs).meaning
 
-abbrev pub behind_meaning : Bool → Bool → List ℕ → List ℕ
-behind_meaning raw bytes [] = []
-behind_meaning raw bytes (c ∷ cs) = drop (reading raw bytes c cs).more cs
+abbrev pub after_meaning : Bool → Bool → List ℕ → List ℕ
+after_meaning raw bytes [] = []
+after_meaning raw bytes (c ∷ cs) = drop (reading raw bytes c cs).more cs
 
 -- the base of a number by the letter after its leading 0
 abbrev pub radix_by : ℕ → ℕ
@@ -115,12 +115,12 @@ asks c = is_digit c 8 || ((c == 120) || ((c == 117) || ((c == 85) || (c == 78)))
 
 -- a character that may be wrong in a literal, by whether a backslash stands before it
 abbrev pub is_doubtful : Bool → Bool → ℕ → Bool
-is_doubtful bytes behind c = (behind && asks c) || ((bytes && nat_lt 0x7F c) || ((c == 0) || (c == 13)))
+is_doubtful bytes following c = (following && asks c) || ((bytes && nat_lt 0x7F c) || ((c == 0) || (c == 13)))
 
 -- no character of a text may be wrong in a literal, by whether a backslash stands before the first
 abbrev pub is_calm : Bool → Bool → List ℕ → Bool
-is_calm bytes behind [] = true
-is_calm bytes behind (c ∷ cs) = not (is_doubtful bytes behind c) && is_calm bytes (c == 92) cs
+is_calm bytes following [] = true
+is_calm bytes following (c ∷ cs) = not (is_doubtful bytes following c) && is_calm bytes (c == 92) cs
 
 -- the points of a literal's body
 abbrev pub body_points : Bool → Bool → List ℕ → List ℕ

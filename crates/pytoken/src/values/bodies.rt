@@ -12,8 +12,8 @@ ghost use Rattle.pytoken.specs.StringValues.{after_opening, body_of};
 
 use crate::values::strings::is_quote;
 
-/// What stands behind the prefix of a literal.
-fn behind_prefix(text: &str) -> &str
+/// What stands after the prefix of a literal.
+fn following_prefix(text: &str) -> &str
     ensures { chars result.now ≡ drop (prefix_len_of (chars text.now)) (chars text.now) }
 {
     let mut rest = text;
@@ -54,7 +54,7 @@ fn has_three(text: &str) -> bool
 }
 
 /// A text without its first character.
-fn behind_first(text: &str) -> &str
+fn following_first(text: &str) -> &str
     ensures { chars result.now ≡ drop 1 (chars text.now) }
 {
     let mut left = text.chars();
@@ -76,12 +76,12 @@ fn before_last(text: &str) -> &str
 }
 
 /// A text without its first characters.
-fn behind(text: &str, count: usize) -> &str
+fn following(text: &str, count: usize) -> &str
     ensures { chars result.now ≡ drop count (chars text.now) }
 {
     let mut rest = text;
     'front: for _front in 0..count {
-        rest = behind_first(rest);
+        rest = following_first(rest);
     }
     rest
 }
@@ -103,11 +103,11 @@ fn without_last(text: &str, count: usize) -> &str
 pub fn after_opening(text: &str) -> &str
     ensures { chars result.now ≡ after_opening (chars text.now) }
 {
-    let opened = behind_prefix(text);
+    let opened = following_prefix(text);
     if has_three(opened) {
-        return behind(opened, 3);
+        return following(opened, 3);
     }
-    behind(opened, 1)
+    following(opened, 1)
 }
 
 /// What stands between the quotes of a literal.
@@ -116,7 +116,7 @@ pub fn after_opening(text: &str) -> &str
 pub fn body(text: &str) -> &str
     ensures { chars result.now ≡ body_of (chars text.now) }
 {
-    if has_three(behind_prefix(text)) {
+    if has_three(following_prefix(text)) {
         return without_last(after_opening(text), 3);
     }
     without_last(after_opening(text), 1)

@@ -8,7 +8,7 @@ ghost use Rattle.pylex_lexeme.specs.Characters.{backslash};
 ghost use Rattle.pytoken.specs.Escapes.{digits_at_front, escape_point, octal, hexadecimal};
 ghost use Rattle.pytoken.specs.Escapes.{hexadecimal_len, names_character, escaped_by, reads};
 ghost use Rattle.pytoken.specs.Inner.Readings.{ReadsEscape, first_digit, first_meaning};
-ghost use Rattle.pytoken.specs.Inner.Readings.{behind_meaning};
+ghost use Rattle.pytoken.specs.Inner.Readings.{after_meaning};
 
 use crate::values::characters::Characters;
 use crate::{Meaning, TokenError};
@@ -21,7 +21,7 @@ fn digits(text: &mut Characters, radix: u32, most: usize) -> (usize, u32)
     requires most { most ≤ 8 }
     ensures count { result.0 ≡ length (digits_at_front radix most text.old) }
     ensures value { result.1 ≡ digits_value radix (digits_at_front radix most text.old) }
-    ensures behind { text.new ≡ drop (length (digits_at_front radix most text.old)) text.old }
+    ensures following { text.new ≡ drop (length (digits_at_front radix most text.old)) text.old }
 {
     let mut count = 0;
     let mut value = 0;
@@ -165,7 +165,7 @@ fn escape(text: &mut Characters, bytes: bool) -> Meaning
 /// What the next character of a literal stands for, with what belongs to it; it is taken.
 pub(crate) fn next_meaning(text: &mut Characters, raw: bool, bytes: bool) -> Option<Meaning>
     ensures meaning { result ≡ first_meaning raw bytes text.old }
-    ensures behind { text.new ≡ behind_meaning raw bytes text.old }
+    ensures following { text.new ≡ after_meaning raw bytes text.old }
 {
     let first = text.bump()?;
     if begins_escape(raw, first) {

@@ -266,22 +266,22 @@ fn asks(c: char) -> bool
 }
 
 /// Whether a character may be wrong in a literal, by whether a backslash stands before it.
-fn is_doubtful(bytes: bool, behind: bool, c: char) -> bool
-    ensures { result ≡ is_doubtful bytes behind c }
+fn is_doubtful(bytes: bool, following: bool, c: char) -> bool
+    ensures { result ≡ is_doubtful bytes following c }
 {
-    behind && asks(c) || bytes && c > '\x7f' || c == '\0' || c == '\r'
+    following && asks(c) || bytes && c > '\x7f' || c == '\0' || c == '\r'
 }
 
 /// Whether no character of a literal may be wrong.
 fn is_calm(text: &str, bytes: bool) -> bool
     ensures { result ≡ is_calm bytes false (chars text.now) }
 {
-    let mut behind = false;
+    let mut following = false;
     for c in text.chars() {
-        if is_doubtful(bytes, behind, c) {
+        if is_doubtful(bytes, following, c) {
             return false;
         }
-        behind = c == '\\';
+        following = c == '\\';
     }
     true
 }

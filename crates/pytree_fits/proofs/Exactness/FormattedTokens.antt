@@ -9,9 +9,9 @@ use Rattle.std.proofs.Math.Utf8.{scalar}
 use Rattle.std.proofs.lemmas.Bool.{and_from, or_parts}
 use Rattle.std.proofs.lemmas.List.Folds.{list_any-append}
 use Rattle.std.proofs.lemmas.Grind.{flat_map-append}
-use Rattle.pyfstring.specs.Expressions.{behind_expression}
+use Rattle.pyfstring.specs.Expressions.{following_expression}
 use Rattle.pyfstring.specs.Singles.{single}
-use Rattle.pyfstring.specs.Texts.{behind_text, is_literal_char}
+use Rattle.pyfstring.specs.Texts.{after_text, is_literal_char}
 use Rattle.pyfstring_tokens.specs.FieldTokens.{is_gap}
 use Rattle.pylex_lexeme.specs.declared.kinds.Exact.TheVariants.{LPar, RPar}
 use Rattle.pylex_lexeme.specs.declared.lexeme.Class.{Class}
@@ -46,11 +46,11 @@ use Rattle.pytree_fits.proofs.Exactness.FieldCharacters.{string_stands}
 -- ---- Elements, where these f-strings are open around theirs.
 
 module _ (o : Open) (p : ℕ → Bool) (is_nested : Bool) (terminals : List ℕ → List Terminal) (is_wrong : List ℕ → Bool)
-    (texts : (k : ℕ) (raw : Bool) (t rest : List ℕ) → list_all p t ≡ true → behind_text raw (at_top k) (t ++ rest) ≡ rest
+    (texts : (k : ℕ) (raw : Bool) (t rest : List ℕ) → list_all p t ≡ true → after_text raw (at_top k) (t ++ rest) ≡ rest
     → Stands (k ∷ o) (FormattedText (text_points (record { is_raw = raw; has_pairs = at_top k; source = t }))))
     (kept : (k : ℕ) (t : List ℕ) → is_nested ≡ false → list_all p t ≡ true
     → Stands (k ∷ o) (FormattedText (text_points (record { is_raw = true; has_pairs = false; source = t }))))
-    (fields : (k : ℕ) (t rest : List ℕ) → list_all p t ≡ true → behind_expression (t ++ rest) ≡ Some rest → is_wrong t ≡ false
+    (fields : (k : ℕ) (t rest : List ℕ) → list_all p t ≡ true → following_expression (t ++ rest) ≡ Some rest → is_wrong t ≡ false
     → Walk (k ∷ o) (k ∷ o) (terminals t)) where
   elements_walk : {k : ℕ} {es : List Element} → Laid p is_nested k es → list_any (is_field_of is_wrong) es ≡ false
       → Walk (k ∷ o) (k ∷ o) (flat_map (element_terminals terminals) es)
@@ -80,7 +80,7 @@ module _ (o : Open) (p : ℕ → Bool) (is_nested : Bool) (terminals : List ℕ 
 -- ---- An f-string in a field.
 
 -- in its fields stands no STRING
-inner_field : (m k : ℕ) (t rest : List ℕ) → list_all is_flat t ≡ true → behind_expression (t ++ rest) ≡ Some rest
+inner_field : (m k : ℕ) (t rest : List ℕ) → list_all is_flat t ≡ true → following_expression (t ++ rest) ≡ Some rest
     → is_nested_faulty t ≡ false
     → Walk (k ∷ (m ∷ [])) (k ∷ (m ∷ [])) (nested_expression t)
 unfolding nested_expression
@@ -97,7 +97,7 @@ abbrev read : Bool → List ℕ → List ℕ
 read raw u = flat_map points_in (meanings raw false (with_line_feeds u))
 
 -- a text there: its characters stand for themselves, and in a format spec none is a brace
-inner_text : (m k : ℕ) (raw : Bool) (t rest : List ℕ) → list_all is_flat t ≡ true → behind_text raw (at_top k) (t ++ rest) ≡ rest
+inner_text : (m k : ℕ) (raw : Bool) (t rest : List ℕ) → list_all is_flat t ≡ true → after_text raw (at_top k) (t ++ rest) ≡ rest
     → Stands (k ∷ (m ∷ [])) (FormattedText (text_points (record { is_raw = raw; has_pairs = at_top k; source = t })))
 unfolding text_points text_meanings
 inner_text m k raw t rest h w = by k w
@@ -117,7 +117,7 @@ inner_text m k raw t rest h w = by k w
     unbraced_there : (u : List ℕ) → list_all is_flat u ≡ true → list_all is_literal_char u ≡ true → list_all is_no_brace (read raw u) ≡ true
     unbraced_there u e l = subst (λ z. list_all is_no_brace z ≡ true) (sym (calm u e)) (kept_all is_no_brace (λ c. not (c == 13)) u l)
 
-    by : (k : ℕ) → behind_text raw (at_top k) (t ++ rest) ≡ rest
+    by : (k : ℕ) → after_text raw (at_top k) (t ++ rest) ≡ rest
         → Stands (k ∷ (m ∷ []))
         (FormattedText (flat_map points_in (meanings raw false (with_line_feeds (if at_top k then single raw t else t)))))
     by zero w = bare (single raw t) (single_kept is_flat raw t h)
@@ -162,7 +162,7 @@ field_lexeme m (classes.Operator e) t g c h f = operator_walk m [] t e c
 field_lexeme m classes.Comment t g c h f = lexeme_walk m [] classes.Comment t g c (field_faultless kinds.Comment t f).1 (λ e c. absurd (cc))
 field_lexeme m _ t g c h f = absurd (cc)
 
-field_passes : (k : ℕ) (t rest : List ℕ) → list_all scalar t ≡ true → behind_expression (t ++ rest) ≡ Some rest → is_faulty t ≡ false
+field_passes : (k : ℕ) (t rest : List ℕ) → list_all scalar t ≡ true → following_expression (t ++ rest) ≡ Some rest → is_faulty t ≡ false
     → Walk (k ∷ []) (k ∷ []) (expression t)
 unfolding expression terminals_by
 field_passes k t rest h w n =

@@ -14,7 +14,7 @@ use Rattle.pytree_node.specs.declared.profiles.Extent.{Extent}
 use Rattle.pytree_node.specs.declared.profiles.Extent.TheVariants.{Plain, Whole}
 use Rattle.pytoken.specs.Laws.{is_point, is_byte}
 use Rattle.pytoken.specs.Terminals.{Terminal, Ident, Number, Literal, FormattedBegin, FormattedText, FieldBegin}
-use Rattle.pygrammar.specs.OpenStrings.{Open, open_behind}
+use Rattle.pygrammar.specs.OpenStrings.{Open, open_following}
 use Rattle.pyunparse_text.specs.Pieces.{is_brace}
 use Rattle.pyunparse_text.specs.Laws as Written
 use Rattle.pyunparse_text.specs.Laws.{may_be_token}
@@ -130,20 +130,20 @@ no_third : (extent : Extent) (k m : ℕ) → passes (tests_in extent) (k ∷ (m 
 no_third Plain k m h = absurd (cc)
 no_third Whole k m h = too_many 0 h
 
-shallow_behind : (extent : Extent) (o : Open) (t : Terminal) → Shallow o → passes (tests_in extent) o t ≡ true → Shallow (open_behind o t)
-shallow_behind extent [] FormattedBegin s h = tt
-shallow_behind extent (k ∷ []) FormattedBegin s h = tt
-shallow_behind extent (k ∷ (m ∷ [])) FormattedBegin s h = absurd (no_third extent k m h)
-shallow_behind extent [] _ s h = tt
-shallow_behind extent (k ∷ []) _ s h = tt
-shallow_behind extent (k ∷ (m ∷ [])) _ s h = tt
-shallow_behind extent (k ∷ (m ∷ (n ∷ o))) t s h = absurd s
+shallow_after : (extent : Extent) (o : Open) (t : Terminal) → Shallow o → passes (tests_in extent) o t ≡ true → Shallow (open_following o t)
+shallow_after extent [] FormattedBegin s h = tt
+shallow_after extent (k ∷ []) FormattedBegin s h = tt
+shallow_after extent (k ∷ (m ∷ [])) FormattedBegin s h = absurd (no_third extent k m h)
+shallow_after extent [] _ s h = tt
+shallow_after extent (k ∷ []) _ s h = tt
+shallow_after extent (k ∷ (m ∷ [])) _ s h = tt
+shallow_after extent (k ∷ (m ∷ (n ∷ o))) t s h = absurd s
 
 pub passing_said : (extent : Extent) (o : Open) (ts : List Terminal) → Shallow o → all_pass (tests_in extent) o ts ≡ true → Said extent o ts
 passing_said extent o [] s h = none
 passing_said extent o (t ∷ ts) s h =
-    let w = and_parts (passes (tests_in extent) o t) (all_pass (tests_in extent) (open_behind o t) ts) h in
-    also (terminal_said extent o t s w.0) (passing_said extent (open_behind o t) ts (shallow_behind extent o t s w.0) w.1)
+    let w = and_parts (passes (tests_in extent) o t) (all_pass (tests_in extent) (open_following o t) ts) h in
+    also (terminal_said extent o t s w.0) (passing_said extent (open_following o t) ts (shallow_after extent o t s w.0) w.1)
 
 -- ---- Tokens.
 
@@ -166,5 +166,5 @@ terminal_may_be n o _ h = refl
 pub passing_may_be : (n : Tests) (o : Open) (ts : List Terminal) → all_pass n o ts ≡ true → list_all may_be_token ts ≡ true
 passing_may_be n o [] h = refl
 passing_may_be n o (t ∷ ts) h =
-    let w = and_parts (passes n o t) (all_pass n (open_behind o t) ts) h in
-    and_from (may_be_token t) (list_all may_be_token ts) (terminal_may_be n o t w.0) (passing_may_be n (open_behind o t) ts w.1)
+    let w = and_parts (passes n o t) (all_pass n (open_following o t) ts) h in
+    and_from (may_be_token t) (list_all may_be_token ts) (terminal_may_be n o t w.0) (passing_may_be n (open_following o t) ts w.1)

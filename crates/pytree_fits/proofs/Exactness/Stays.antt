@@ -22,7 +22,7 @@ use Rattle.pygrammar.specs.declared.pattern_levels.PatternLevel.TheVariants.{AsP
 use Rattle.pygrammar.specs.Grammar.{Derives}
 use Rattle.pygrammar.specs.Lines.{Line, no_types}
 use Rattle.pygrammar.specs.Forms.{FormAt, is_whole}
-use Rattle.pygrammar.specs.OpenStrings.{Open, open_behind}
+use Rattle.pygrammar.specs.OpenStrings.{Open, open_following}
 use Rattle.pygrammar.specs.Blocks.{stands_in_match}
 use Rattle.pytree_fits.specs.Tests.{Tests, tests_in, depth_in, within}
 use Rattle.pytree_fits.specs.Literals.{is_value}
@@ -72,9 +72,9 @@ terminals_stay : (extent : Extent) (o : Open) (ts : List Terminal) → all_pass 
     → all_pass (tests_in Whole) o ts ≡ true
 terminals_stay extent o [] h = refl
 terminals_stay extent o (t ∷ ts) h =
-    let w = and_parts (passes (tests_in extent) o t) (all_pass (tests_in extent) (open_behind o t) ts) h in
-    and_from (passes (tests_in Whole) o t) (all_pass (tests_in Whole) (open_behind o t) ts) (terminal_stays extent o t w.0)
-    (terminals_stay extent (open_behind o t) ts w.1)
+    let w = and_parts (passes (tests_in extent) o t) (all_pass (tests_in extent) (open_following o t) ts) h in
+    and_from (passes (tests_in Whole) o t) (all_pass (tests_in Whole) (open_following o t) ts) (terminal_stays extent o t w.0)
+    (terminals_stay extent (open_following o t) ts w.1)
 
 given_stays : {A : Type 0} (r : List Terminal → A → Type 0) (a : A) (extent : Extent) → Given (tests_in extent) r a
     → Given (tests_in Whole) r a

@@ -1,4 +1,4 @@
--- Carries: the laws by tokens. On: terminals that pass, with what is open behind them, and those of the tokens of a field.
+-- Carries: the laws by tokens. On: terminals that pass, with what is open after them, and those of the tokens of a field.
 use Rattle.std.proofs.Common.{◌≡◌, refl, sym, ap, subst, ◌∙◌, ℕ, List, [], ◌∷◌, ◌++◌, Option, Some, None, Bool, true, false}
 use Rattle.std.specs.List.{flat_map}
 use Rattle.std.specs.Str.{encode_utf8_all}
@@ -24,8 +24,8 @@ use Rattle.pytoken.specs.NameValues.{name_fault}
 use Rattle.pytoken.specs.NumberValues.{number_value, number_fault}
 use Rattle.pytoken.specs.Terminals.{Terminal, Op, Word, Ident, Number, Layout, terminal_of, single_fault}
 use Rattle.pytoken.proofs.Callers.Said.{names_are_proper}
-use Rattle.pygrammar.specs.OpenStrings.{Open, open_behind, open_behind_all}
-use Rattle.pygrammar.proofs.Callers.OpenStrings.{behind_append}
+use Rattle.pygrammar.specs.OpenStrings.{Open, open_following, open_after_all}
+use Rattle.pygrammar.proofs.Callers.OpenStrings.{after_append}
 use Rattle.pyunparse_text.proofs.Callers.Strings.{OfClass, IsToken, AllTokens, no_lexeme, a_gap, a_token, IsWholeField, operator_terminal}
 use Rattle.pytree_fits.specs.Tests.{Tests, tests_in}
 use Rattle.pytree_fits.specs.Given.{passes, all_pass}
@@ -41,21 +41,21 @@ whole = tests_in Whole
 abbrev pub Stands : Open → Terminal → Type 0
 Stands o t = passes whole o t ≡ true
 
--- so do all, and behind them these are open
+-- so do all, and after them these are open
 pub record Walk (o q : Open) (ts : List Terminal) : Type 0 where
   pub passed : all_pass whole o ts ≡ true
-  pub opened : open_behind_all o ts ≡ q
+  pub opened : open_after_all o ts ≡ q
 
 pub walk_none : (o : Open) → Walk o o []
 walk_none o = record { passed = refl; opened = refl }
 
-pub walk_one : {o q : Open} (t : Terminal) → Stands o t → open_behind o t ≡ q → Walk o q (t ∷ [])
+pub walk_one : {o q : Open} (t : Terminal) → Stands o t → open_following o t ≡ q → Walk o q (t ∷ [])
 walk_one {o} t s e = record { passed = and_from (passes whole o t) true s refl; opened = e }
 
 pub walk_both : {o m q : Open} {ts us : List Terminal} → Walk o m ts → Walk m q us → Walk o q (ts ++ us)
 walk_both {o} {m} {q} {ts} {us} a b = record {
   passed = both_from whole o ts us a.passed (subst (λ z. all_pass whole z us ≡ true) (sym a.opened) b.passed);
-  opened = behind_append o ts us ∙ (ap (λ z. open_behind_all z us) a.opened ∙ b.opened);
+  opened = after_append o ts us ∙ (ap (λ z. open_after_all z us) a.opened ∙ b.opened);
 }
 
 -- ---- The tokens of a field.
@@ -80,12 +80,12 @@ module _ (o : Open) (p : ℕ → Bool) (fault : Kind → List ℕ → Option Tok
 
 -- ---- Tokens that are one terminal, and no STRING.
 
-name_opens : (n : ℕ) (o : Open) (t : List ℕ) → open_behind (n ∷ o) (terminal_of kinds.Name t) ≡ n ∷ o
+name_opens : (n : ℕ) (o : Open) (t : List ℕ) → open_following (n ∷ o) (terminal_of kinds.Name t) ≡ n ∷ o
 unfolding terminal_of
 name_opens n o t = by (keyword_of t)
   where
     by : (k : Option Keyword)
-        → open_behind (n ∷ o) (elim k [ Some w ↦ Word w | None ↦ Ident (record { spelling = t; form = nfkc t }) ]) ≡ n ∷ o
+        → open_following (n ∷ o) (elim k [ Some w ↦ Word w | None ↦ Ident (record { spelling = t; form = nfkc t }) ]) ≡ n ∷ o
     by (Some w) = refl
     by None = refl
 
@@ -109,7 +109,7 @@ number_stands : (n : ℕ) (o : Open) (t : List ℕ) → number_fault Whole (enco
 unfolding terminal_of
 number_stands n o t s h = number_anywhere n o (number_value (encode_utf8_all t)) h
 
-number_opens : (n : ℕ) (o : Open) (t : List ℕ) → open_behind (n ∷ o) (terminal_of kinds.Number t) ≡ n ∷ o
+number_opens : (n : ℕ) (o : Open) (t : List ℕ) → open_following (n ∷ o) (terminal_of kinds.Number t) ≡ n ∷ o
 unfolding terminal_of
 number_opens n o t = refl
 

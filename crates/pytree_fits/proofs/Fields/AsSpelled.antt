@@ -8,8 +8,8 @@ use Rattle.pytoken.specs.Terminals.{Terminal, Ident}
 use Rattle.pygrammar.specs.Lines.{Line}
 use Rattle.pygrammar.specs.Forms.{FormAt}
 use Rattle.pygrammar.specs.Blocks.{stands_in_match}
-use Rattle.pygrammar.specs.OpenStrings.{Open, open_behind, open_behind_all}
-use Rattle.pygrammar.proofs.Callers.OpenStrings.{behind_append}
+use Rattle.pygrammar.specs.OpenStrings.{Open, open_following, open_after_all}
+use Rattle.pygrammar.proofs.Callers.OpenStrings.{after_append}
 use Rattle.pytree_fits.specs.Tests.{Tests}
 use Rattle.pytree_fits.specs.Given.{passes, all_pass, AreGiven, no_line, a_line}
 use Rattle.pytree_fits.proofs.Fields.Standing.{Standing, outside}
@@ -20,13 +20,13 @@ passes_as_spelled n o t = passes n o t
 
 abbrev pub all_as_spelled : Tests → Open → List Terminal → Bool
 all_as_spelled n o [] = true
-all_as_spelled n o (t ∷ ts) = passes_as_spelled n o t && all_as_spelled n (open_behind o t) ts
+all_as_spelled n o (t ∷ ts) = passes_as_spelled n o t && all_as_spelled n (open_following o t) ts
 
--- such terminals, behind which these f-strings are open
+-- such terminals, after which these f-strings are open
 abbrev pub Ends : Standing → Open → List Terminal → Type 0
-Ends n o ts = ◌≡◌ {A = Bool × Open} (all_as_spelled n.tests n.opened ts, open_behind_all n.opened ts) (true, o)
+Ends n o ts = ◌≡◌ {A = Bool × Open} (all_as_spelled n.tests n.opened ts, open_after_all n.opened ts) (true, o)
 
--- such terminals, behind which is open what is open before them
+-- such terminals, after which is open what is open before them
 abbrev pub Passed : Standing → List Terminal → Type 0
 Passed n ts = Ends n n.opened ts
 
@@ -41,11 +41,11 @@ pub data AreGivenAsSpelled (profile : Profile) (n : Tests) : List Line → List 
 
 -- a list by its parts
 spelled_append : (n : Tests) (o : Open) (ts us : List Terminal) → all_as_spelled n o ts ≡ true
-    → all_as_spelled n (open_behind_all o ts) us ≡ true → all_as_spelled n o (ts ++ us) ≡ true
+    → all_as_spelled n (open_after_all o ts) us ≡ true → all_as_spelled n o (ts ++ us) ≡ true
 spelled_append n o [] us p q = q
 spelled_append n o (t ∷ ts) us p q =
-    let w = and_parts (passes_as_spelled n o t) (all_as_spelled n (open_behind o t) ts) p in
-    and_from (passes_as_spelled n o t) (all_as_spelled n (open_behind o t) (ts ++ us)) w.0 (spelled_append n (open_behind o t) ts us w.1 q)
+    let w = and_parts (passes_as_spelled n o t) (all_as_spelled n (open_following o t) ts) p in
+    and_from (passes_as_spelled n o t) (all_as_spelled n (open_following o t) (ts ++ us)) w.0 (spelled_append n (open_following o t) ts us w.1 q)
 
 one_passes : (n : Tests) (o : Open) (t : Terminal) → passes_as_spelled n o t ≡ true → passes n o t ≡ true
 one_passes n o (Ident x) h = (and_parts (n.name x.form) (bytes_eq x.spelling x.form) h).0
@@ -54,43 +54,43 @@ one_passes n o _ h = h
 all_passing_from : (n : Tests) (o : Open) (ts : List Terminal) → all_as_spelled n o ts ≡ true → all_pass n o ts ≡ true
 all_passing_from n o [] h = refl
 all_passing_from n o (t ∷ ts) h =
-    let w = and_parts (passes_as_spelled n o t) (all_as_spelled n (open_behind o t) ts) h in
-    and_from (passes n o t) (all_pass n (open_behind o t) ts) (one_passes n o t w.0) (all_passing_from n (open_behind o t) ts w.1)
+    let w = and_parts (passes_as_spelled n o t) (all_as_spelled n (open_following o t) ts) h in
+    and_from (passes n o t) (all_pass n (open_following o t) ts) (one_passes n o t w.0) (all_passing_from n (open_following o t) ts w.1)
 
 module _ (n : Standing) where
   pub spelled : {o : Open} (ts : List Terminal) → Ends n o ts → all_as_spelled n.tests n.opened ts ≡ true
   spelled ts p = ap (λ x. x.0) p
 
-  closed : {o : Open} (ts : List Terminal) → Ends n o ts → open_behind_all n.opened ts ≡ o
+  closed : {o : Open} (ts : List Terminal) → Ends n o ts → open_after_all n.opened ts ≡ o
   closed ts p = ap (λ x. x.1) p
 
-  ends : (o : Open) (ts : List Terminal) → all_as_spelled n.tests n.opened ts ≡ true → open_behind_all n.opened ts ≡ o → Ends n o ts
+  ends : (o : Open) (ts : List Terminal) → all_as_spelled n.tests n.opened ts ≡ true → open_after_all n.opened ts ≡ o → Ends n o ts
   ends o ts p q = λ i. (p i, q i)
 
-  -- behind a list that closes what it opens
+  -- after a list that closes what it opens
   pub pass_past : (o : Open) (ts us : List Terminal) → Passed n ts → Ends n o us → Ends n o (ts ++ us)
   pass_past o ts us p q =
       ends o (ts ++ us) (spelled_append n.tests n.opened ts us (spelled ts p)
       (ap (λ o. all_as_spelled n.tests o us) (closed ts p) ∙ spelled us q))
-      (behind_append n.opened ts us ∙ ap (λ o. open_behind_all o us) (closed ts p) ∙ closed us q)
+      (after_append n.opened ts us ∙ ap (λ o. open_after_all o us) (closed ts p) ∙ closed us q)
 
   pub pass_on : (ts us : List Terminal) → Passed n ts → Passed n us → Passed n (ts ++ us)
   pass_on ts us p q = pass_past n.opened ts us p q
 
-  -- behind a terminal
-  pub pass_behind : (t : Terminal) (m o : Open) (ts : List Terminal) → passes_as_spelled n.tests n.opened t ≡ true
-      → open_behind n.opened t ≡ m →
+  -- after a terminal
+  pub pass_after : (t : Terminal) (m o : Open) (ts : List Terminal) → passes_as_spelled n.tests n.opened t ≡ true
+      → open_following n.opened t ≡ m →
       Ends (record { tests = n.tests; opened = m }) o ts → Ends n o (t ∷ ts)
-  pass_behind t m o ts h q p =
+  pass_after t m o ts h q p =
       ends o (t ∷ ts)
-      (and_from (passes_as_spelled n.tests n.opened t) (all_as_spelled n.tests (open_behind n.opened t) ts) h
+      (and_from (passes_as_spelled n.tests n.opened t) (all_as_spelled n.tests (open_following n.opened t) ts) h
       (ap (λ x. all_as_spelled n.tests x ts) q ∙ ap (λ x. x.0) p))
-      (ap (λ x. open_behind_all x ts) q ∙ ap (λ x. x.1) p)
+      (ap (λ x. open_after_all x ts) q ∙ ap (λ x. x.1) p)
 
-  -- behind one that neither opens nor closes an f-string
-  pub pass_in_front : (t : Terminal) (ts : List Terminal) → passes_as_spelled n.tests n.opened t ≡ true → open_behind n.opened t ≡ n.opened
+  -- after one that neither opens nor closes an f-string
+  pub pass_in_front : (t : Terminal) (ts : List Terminal) → passes_as_spelled n.tests n.opened t ≡ true → open_following n.opened t ≡ n.opened
       → Passed n ts → Passed n (t ∷ ts)
-  pass_in_front t ts h q p = pass_behind t n.opened n.opened ts h q p
+  pass_in_front t ts h q p = pass_after t n.opened n.opened ts h q p
 
 module _ (n : Tests) where
   pub all_passing : (ts : List Terminal) → Passed (outside n) ts → all_pass n [] ts ≡ true

@@ -11,9 +11,9 @@ use Rattle.pytoken.specs.Terminals.{Terminal, Spelled, Op, Word, Ident, Formatte
 use Rattle.pygrammar.specs.declared.levels.Level.{Level}
 use Rattle.pygrammar.specs.declared.levels.Level.TheVariants.{BitOr, Not}
 use Rattle.pygrammar.specs.Operators.{left_operator, prefix_operator}
-use Rattle.pygrammar.specs.OpenStrings.{Open, open_behind, open_behind_all}
+use Rattle.pygrammar.specs.OpenStrings.{Open, open_following, open_after_all}
 use Rattle.pygrammar.specs.PatternGrammar
-use Rattle.pygrammar.proofs.Callers.OpenStrings.{behind_append}
+use Rattle.pygrammar.proofs.Callers.OpenStrings.{after_append}
 
 -- ---- Operators neither open nor close one.
 
@@ -23,32 +23,32 @@ none_some (Some x) a h q = absurd (cc)
 
 quiet_by : {A : Type 0} (f : Terminal → Option A) → f FormattedBegin ≡ None → f FormattedEnd ≡ None
     → ((c : Conversion) → f (FieldBegin c) ≡ None)
-    → f FieldEnd ≡ None → (t : Terminal) (a : A) → f t ≡ Some a → (o : Open) → open_behind o t ≡ o
+    → f FieldEnd ≡ None → (t : Terminal) (a : A) → f t ≡ Some a → (o : Open) → open_following o t ≡ o
 quiet_by f h k m n FormattedBegin a q o = absurd (none_some (f FormattedBegin) a h q)
 quiet_by f h k m n FormattedEnd a q o = absurd (none_some (f FormattedEnd) a k q)
 quiet_by f h k m n (FieldBegin c) a q o = absurd (none_some (f (FieldBegin c)) a (m c) q)
 quiet_by f h k m n FieldEnd a q o = absurd (none_some (f FieldEnd) a n q)
 quiet_by f h k m n _ a q o = refl
 
-pub quiet_left : (l : Level) (t : Terminal) (a : Operator) → left_operator l t ≡ Some a → (o : Open) → open_behind o t ≡ o
+pub quiet_left : (l : Level) (t : Terminal) (a : Operator) → left_operator l t ≡ Some a → (o : Open) → open_following o t ≡ o
 quiet_left BitOr = quiet_by (left_operator BitOr) refl refl (λ _. refl) refl
 quiet_left l = quiet_by (left_operator l) refl refl (λ _. refl) refl
 
-pub quiet_prefix : (l : Level) (t : Terminal) (a : UnaryOperator) → prefix_operator l t ≡ Some a → (o : Open) → open_behind o t ≡ o
+pub quiet_prefix : (l : Level) (t : Terminal) (a : UnaryOperator) → prefix_operator l t ≡ Some a → (o : Open) → open_following o t ≡ o
 quiet_prefix Not = quiet_by (prefix_operator Not) refl refl (λ _. refl) refl
 quiet_prefix l = quiet_by (prefix_operator l) refl refl (λ _. refl) refl
 
 -- ---- Lists of terminals by their parts.
 
--- behind the list is open what was open before it
+-- after the list is open what was open before it
 pub record Closes (ts : List Terminal) : Type 0 where
-  pub is : (o : Open) → open_behind_all o ts ≡ o
+  pub is : (o : Open) → open_after_all o ts ≡ o
 
 pub none : Closes []
 none = record { is = λ o. refl }
 
 pub both : {ts us : List Terminal} → Closes ts → Closes us → Closes (ts ++ us)
-both {ts} {us} p q = record { is = λ o. behind_append o ts us ∙ ap (λ x. open_behind_all x us) (p.is o) ∙ q.is o }
+both {ts} {us} p q = record { is = λ o. after_append o ts us ∙ ap (λ x. open_after_all x us) (p.is o) ∙ q.is o }
 
 pub sign : {x : Exact} {ts : List Terminal} → Closes ts → Closes (Op x ∷ ts)
 sign p = record { is = p.is }
@@ -65,7 +65,7 @@ ended x p = both p (sign none)
 
 -- ---- Parts of patterns.
 
-pub signed_closes : {v : Value} {ts : List Terminal} {e : Expr} → PatternGrammar.SignedNumber v ts e → (o : Open) → open_behind_all o ts ≡ o
+pub signed_closes : {v : Value} {ts : List Terminal} {e : Expr} → PatternGrammar.SignedNumber v ts e → (o : Open) → open_after_all o ts ≡ o
 signed_closes PatternGrammar.unsigned o = refl
 signed_closes PatternGrammar.negative o = refl
 
@@ -73,5 +73,5 @@ dotted : {f : Identifier} {ts : List Terminal} {e : Expr} → PatternGrammar.Dot
 dotted PatternGrammar.first_name = ident none
 dotted (PatternGrammar.dot_name x p) = both (dotted p) (sign (ident none))
 
-pub dotted_closes : {f : Identifier} {ts : List Terminal} {e : Expr} → PatternGrammar.Dotted f ts e → (o : Open) → open_behind_all o ts ≡ o
+pub dotted_closes : {f : Identifier} {ts : List Terminal} {e : Expr} → PatternGrammar.Dotted f ts e → (o : Open) → open_after_all o ts ≡ o
 dotted_closes p = (dotted p).is

@@ -7,7 +7,7 @@ use Rattle.pytoken.specs.Terminals.{Terminal}
 use Rattle.pygrammar.specs.declared.levels.Level.{Level}
 use Rattle.pygrammar.specs.Grammar as G
 use Rattle.pygrammar.specs.Forms as F
-use Rattle.pygrammar.specs.OpenStrings.{Open, open_behind, open_behind_all}
+use Rattle.pygrammar.specs.OpenStrings.{Open, open_following, open_after_all}
 use Rattle.pygrammar.proofs.Callers.OpenStrings.{expression_closes, target_closes, item_target_closes}
 use Rattle.pytree_fits.proofs.Fields.Closings.{Closes, none}
 use Rattle.pytree_fits.proofs.Fields.Closings.{both, sign, word, ident, ended}
@@ -15,10 +15,10 @@ use Rattle.pytree_fits.proofs.Fields.Closings.{both, sign, word, ident, ended}
 expression : {l : Level} {ts : List Terminal} {e : Expr} → G.Derives l ts e → Closes ts
 expression p = record { is = expression_closes p }
 
-behind_sign : {t : Terminal} {l : Level} {ts : List Terminal} {e : Option Expr} → ((o : Open) → open_behind o t ≡ o)
-    → F.Behind t l ts e → Closes ts
-behind_sign h F.none_behind = none
-behind_sign {t} h (F.behind {ts = ts} p) = record { is = λ o. ap (λ x. open_behind_all x ts) (h o) ∙ expression_closes p o }
+following_sign : {t : Terminal} {l : Level} {ts : List Terminal} {e : Option Expr} → ((o : Open) → open_following o t ≡ o)
+    → F.Following t l ts e → Closes ts
+following_sign h F.none_after = none
+following_sign {t} h (F.following {ts = ts} p) = record { is = λ o. ap (λ x. open_after_all x ts) (h o) ∙ expression_closes p o }
 
 as_closes : {ts : List Terminal} {x : Option Identifier} → F.As ts x → Closes ts
 as_closes F.no_as = none
@@ -41,7 +41,7 @@ module _ (A : Type 0) (X : List Terminal → A → Type 0) (each : (ts : List Te
 -- ---- Parameters of types.
 
 pub type_param_closes : (ts : List Terminal) (p : TypeParam) → F.TypeParamOf ts p → Closes ts
-type_param_closes ts p (F.type_var k) = ident (behind_sign (λ o. refl) k)
+type_param_closes ts p (F.type_var k) = ident (following_sign (λ o. refl) k)
 type_param_closes ts p F.type_var_tuple = sign (ident none)
 type_param_closes ts p F.param_spec = sign (ident none)
 

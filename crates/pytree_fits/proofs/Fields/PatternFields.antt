@@ -191,17 +191,17 @@ module _ (n : Tests) where
   as_many_named (Named x p ∷ es) = omega (arith, as_many_named es)
   as_many_named (_ ∷ es) = as_many_named es
 
-  behind_alone : (es : List PatternEntry) → are_class_arguments true es ≡ true → not (begins_with_wildcard (named_attributes es)) ≡ true
-  behind_alone [] h = refl
-  behind_alone (Alone p ∷ es) h = behind_alone es h
-  behind_alone (Named x p ∷ es) h = (and_parts (not (is_wildcard x)) (all_named es) h).0
-  behind_alone (_ ∷ es) h = absurd (never h)
+  after_alone : (es : List PatternEntry) → are_class_arguments true es ≡ true → not (begins_with_wildcard (named_attributes es)) ≡ true
+  after_alone [] h = refl
+  after_alone (Alone p ∷ es) h = after_alone es h
+  after_alone (Named x p ∷ es) h = (and_parts (not (is_wildcard x)) (all_named es) h).0
+  after_alone (_ ∷ es) h = absurd (never h)
 
   first_named : (es : List PatternEntry) → are_class_arguments false es ≡ true
       → (eqb (count_patterns (elements es)) 0 || not (begins_with_wildcard (named_attributes es))) ≡ true
   first_named [] h = refl
   first_named (Alone p ∷ es) h = or_right (eqb (count_patterns (elements es) + 1) 0)
-      (not (begins_with_wildcard (named_attributes es))) (behind_alone es h)
+      (not (begins_with_wildcard (named_attributes es))) (after_alone es h)
   first_named (Named x p ∷ es) h = subst (λ z. (eqb (count_patterns z) 0 || not (is_wildcard x)) ≡ true) (sym (none_alone es h)) refl
   first_named (_ ∷ es) h = absurd (never h)
 

@@ -46,7 +46,7 @@ pub data PartsFit (n : Tests) (u : Bool) (d : ℕ) : List StringPart → Type 0 
   no_part : PartsFit n u d []
   a_part : {p : StringPart} {ps : List StringPart} → PartFits n u d p → PartsFit n u d ps → PartsFit n u d (p ∷ ps)
 
--- none of their texts is empty, and no two stand side by side, behind a text or not
+-- none of their texts is empty, and no two stand side by side, after a text or not
 data Valued (n : Tests) (u : Bool) (d : ℕ) : Bool → List StringPart → Type 0 where
   no_value : {b : Bool} → Valued n u d b []
   a_text : {c : ℕ} {cs : List ℕ} {ps : List StringPart} → has_formatted_text n.fields d (c ∷ cs) ≡ true → Valued n u d true ps
@@ -123,7 +123,7 @@ module _ (n : Tests) (u : Bool) (d : ℕ) where
       by true = refl
       by false = refl
 
-  -- what a text that isn't the last has behind it
+  -- what a text that isn't the last has after it
   more : {p : StringPart} {ps : List StringPart} → Valued n u d true (p ∷ ps) → is_last (spec_values_of u (p ∷ ps)) ≡ false
   more (a_field f g x y r) = refl
 

@@ -28,7 +28,7 @@ use Rattle.pytree_fits.specs.Slots.{count, count_optional, has_some, is_absent, 
 use Rattle.pytree_fits.specs.Slots.{each_perhaps_fits, each_clause_fits, fits_arguments, spec_has_kind, spec_fits, joined_fits}
 use Rattle.pytree_fits.specs.Literals.{has_text, has_formatted_text, is_value}
 use Rattle.pytree_fits.specs.Given.{is_number, passes, all_pass}
-use Rattle.pytree_fits.proofs.Fields.Standing.{Standing, outside, here, in_string, pass_at, left, right, behind}
+use Rattle.pytree_fits.proofs.Fields.Standing.{Standing, outside, here, in_string, pass_at, left, right, following}
 use Rattle.pytree_fits.proofs.Fields.Closings.{quiet_prefix, quiet_left}
 use Rattle.pytree_fits.proofs.Fields.Tests.{from3, from4, word_value, joined_value}
 use Rattle.pytree_fits.proofs.Fields.Strings.{PartsFit, no_part, a_part, text_part, field_part, plain_text, parts_on, spec_of_parts}
@@ -110,7 +110,7 @@ mutual
       (and_from (fits_at (here n) Expression e) (each_fits (here n) Expression (exprs es))
       (plain (here n) (below (chain_level o)) e (chain_inner o) (slots n p (left n ts (Word (chain_word o) ∷ us) s))) w.each)
   slots n (G.unary {l = l} {t = t} {o = o} {ts = ts} {e = e} h p) s =
-      plain (here n) l e (prefix_inner l t o h) (slots n p (behind n t (quiet_prefix l t o h n.opened) ts s))
+      plain (here n) l e (prefix_inner l t o h) (slots n p (following n t (quiet_prefix l t o h n.opened) ts s))
   slots n (G.compare {ts = ts} {us = us} {e = e} {os = os} {es = es} p c) s =
       let w = compares n c (right n ts (expression_closes p) us s) in
       from4 (leb 1 (length os)) (eqb (length os) (count (exprs es))) (fits_at (here n) Expression e)
@@ -118,7 +118,7 @@ mutual
       (plain (here n) BitOr e refl (slots n p (left n ts us s))) w.each
   slots n (G.binary {l = l} {ts = ts} {us = us} {a = a} {b = b} {o = o} t h p q) s =
       binary_fits (here n) l t o a b h (slots n p (left n ts (t ∷ us) s))
-      (slots n q (behind n t (quiet_left l t o h n.opened) us (right n ts (expression_closes p) (t ∷ us) s)))
+      (slots n q (following n t (quiet_left l t o h n.opened) us (right n ts (expression_closes p) (t ∷ us) s)))
   slots n (G.power {ts = ts} {us = us} {a = a} {b = b} p q) s = and_from (fits_at (here n) Expression a) (fits_at (here n) Expression b)
       (plain (here n) Await a refl (slots n p (left n ts (Op DoubleStar ∷ us) s)))
       (plain (here n) Factor b refl (slots n q (right n ts (expression_closes p) (Op DoubleStar ∷ us) s)))

@@ -22,7 +22,7 @@ use Rattle.pygrammar.specs.Lines.{for_head, function_head, class_head, no_types}
 use Rattle.pygrammar.specs.Forms as F
 use Rattle.pygrammar.specs.Forms.{listed, is_whole}
 use Rattle.pytree_node.specs.Profiles.{has_types}
-use Rattle.pygrammar.specs.OpenStrings.{open_behind}
+use Rattle.pygrammar.specs.OpenStrings.{open_following}
 use Rattle.pygrammar.proofs.Callers.OpenStrings.{expression_closes, single_target_closes, del_target_closes, target_closes, listing_closes}
 use Rattle.pygrammar.proofs.Callers.OpenStrings.{pattern_closes, simple_closes, header_closes, case_closes}
 use Rattle.pytree_fits.specs.Tests.{Tests}
@@ -31,7 +31,7 @@ use Rattle.pytree_fits.specs.Slots.{each_keyword_fits, fits_arguments}
 use Rattle.pytree_fits.specs.PatternSlots.{pattern_fits_at}
 use Rattle.pytree_fits.specs.Statements.{has_one, dotted, import_fits, alias_fits, imports_fit, item_fits, type_param_fits, types_fit}
 use Rattle.pytree_fits.specs.Statements.{raised_fits, caught_fits, statement_fits, statements_fit}
-use Rattle.pytree_fits.proofs.Fields.Standing.{outside, pass_at, left, right, behind}
+use Rattle.pytree_fits.proofs.Fields.Standing.{outside, pass_at, left, right, following}
 use Rattle.pytree_fits.proofs.Fields.Closings.{Closes}
 use Rattle.pytree_fits.proofs.Fields.LineClosings.{async_closes, type_params_close, module_closes, module_alias_closes, name_alias_closes}
 use Rattle.pytree_fits.proofs.Fields.LineClosings.{dots_close, item_closes, name_closes, targets_close, type_param_closes}
@@ -108,10 +108,10 @@ module _ (n : Tests) where
   perhaps F.left_out s = refl
   perhaps (F.given p) s = slots (outside n) p s
 
-  behind_fits : {t : Terminal} {l : Level} {ts : List Terminal} {e : Option Expr} → open_behind [] t ≡ [] → F.Behind t l ts e
+  after_fits : {t : Terminal} {l : Level} {ts : List Terminal} {e : Option Expr} → open_following [] t ≡ [] → F.Following t l ts e
       → pass_at (outside n) ts ≡ true → perhaps_fits n l (optional e) ≡ true
-  behind_fits k F.none_behind s = refl
-  behind_fits k (F.behind {t = t} {ts = ts} p) s = slots (outside n) p (behind (outside n) t k ts s)
+  after_fits k F.none_after s = refl
+  after_fits k (F.following {t = t} {ts = ts} p) s = slots (outside n) p (following (outside n) t k ts s)
 
   as_fits : {ts : List Terminal} {x : Option Identifier} → F.As ts x → pass_at (outside n) ts ≡ true → perhaps_name n.name x ≡ true
   as_fits F.no_as s = refl
@@ -123,7 +123,7 @@ module _ (n : Tests) where
   type_param : {ts : List Terminal} {p : TypeParam} → F.TypeParamOf ts p → pass_at (outside n) ts ≡ true → type_param_fits n p ≡ true
   type_param (F.type_var {x = x} {ts = ts} {bound = b} q) s =
       let w = and_parts (n.name x.form) (pass_at (outside n) ts) s in
-      and_from (n.name x.form) (perhaps_fits n Expression (optional b)) w.0 (behind_fits refl q w.1)
+      and_from (n.name x.form) (perhaps_fits n Expression (optional b)) w.0 (after_fits refl q w.1)
   type_param (F.type_var_tuple {x = x}) s = (and_parts (n.name x.form) true s).0
   type_param (F.param_spec {x = x}) s = (and_parts (n.name x.form) true s).0
 
@@ -185,11 +185,11 @@ module _ (n : Tests) where
     delete_fits (F.ends_comma {ts = ts} {as_ = es} c) s = and_from (has_one es) (each_target_fits n Del (exprs es)) (some_commas c)
         (deleted c (left (outside n) ts (Op Sign.Comma ∷ []) s))
 
-    raise_fits : {t : Terminal} {ts : List Terminal} {c : Option Expr} (e : Expr) → open_behind [] t ≡ [] → F.Behind t Expression ts c
+    raise_fits : {t : Terminal} {ts : List Terminal} {c : Option Expr} (e : Expr) → open_following [] t ≡ [] → F.Following t Expression ts c
         → pass_at (outside n) ts ≡ true → fits_at n Expression e ≡ true → raised_fits n (Some e) c ≡ true
-    raise_fits e k F.none_behind s h = h
-    raise_fits e k (F.behind {t = t} {ts = ts} {e = c} p) s h = and_from (fits_at n Expression e) (fits_at n Expression c) h
-        (slots (outside n) p (behind (outside n) t k ts s))
+    raise_fits e k F.none_after s h = h
+    raise_fits e k (F.following {t = t} {ts = ts} {e = c} p) s h = and_from (fits_at n Expression e) (fits_at n Expression c) h
+        (slots (outside n) p (following (outside n) t k ts s))
 
     pub simple : {profile : Profile} {ts : List Terminal} {s : Stmt} → F.Simple profile ts s → pass_at (outside n) ts ≡ true
         → statement_fits profile n s ≡ true
@@ -203,19 +203,19 @@ module _ (n : Tests) where
     simple (F.annotated_name {x = x} {ts = ts} {us = us} {a = a} {v = v} p q) s =
         let w = and_parts (n.name x.form) (pass_at (outside n) (ts ++ us)) s in
         from3 (n.name x.form) (fits_at n Expression a) (perhaps_fits n Value (optional v)) w.0
-        (slots (outside n) p (left (outside n) ts us w.1)) (behind_fits refl q (right (outside n) ts (expression_closes p) us w.1))
+        (slots (outside n) p (left (outside n) ts us w.1)) (after_fits refl q (right (outside n) ts (expression_closes p) us w.1))
     simple (F.annotated_group {ts = ts} {us = us} {vs = vs} {t = t} {a = a} {v = v} p q r) s =
         let w = right (outside n) ts (single_target_closes p) (Op Sign.RPar ∷ (Op Sign.Colon ∷ (us ++ vs))) s in
         let u = and_parts (is_single t) (fits_target n Store t)
         (single_target_fits n p (left (outside n) ts (Op Sign.RPar ∷ (Op Sign.Colon ∷ (us ++ vs))) s)) in
         from5 (is_single t) true (fits_target n Store t) (fits_at n Expression a) (perhaps_fits n Value (optional v)) u.0 refl u.1
-        (slots (outside n) q (left (outside n) us vs w)) (behind_fits refl r (right (outside n) us (expression_closes q) vs w))
+        (slots (outside n) q (left (outside n) us vs w)) (after_fits refl r (right (outside n) us (expression_closes q) vs w))
     simple (F.annotated_part {ts = ts} {us = us} {vs = vs} {t = t} {a = a} {v = v} p h q r) s =
         let w = right (outside n) ts (single_target_closes p) (Op Sign.Colon ∷ (us ++ vs)) s in
         let u = and_parts (is_single t) (fits_target n Store t)
         (single_target_fits n p (left (outside n) ts (Op Sign.Colon ∷ (us ++ vs)) s)) in
         from5 (is_single t) true (fits_target n Store t) (fits_at n Expression a) (perhaps_fits n Value (optional v)) u.0 refl u.1
-        (slots (outside n) q (left (outside n) us vs w)) (behind_fits refl r (right (outside n) us (expression_closes q) vs w))
+        (slots (outside n) q (left (outside n) us vs w)) (after_fits refl r (right (outside n) us (expression_closes q) vs w))
     simple {profile} (F.type_alias {form = f} {x = x} {ts = ts} {us = us} {ps = ps} {e = e} h c p) s =
         let w = and_parts (n.name x.form) (pass_at (outside n) (ts ++ (Op Sign.Equal ∷ us)))
         (and_parts (n.name f) (pass_at (outside n) (Ident x ∷ (ts ++ (Op Sign.Equal ∷ us)))) s).1 in
@@ -229,7 +229,7 @@ module _ (n : Tests) where
         (slots (outside n) p (left (outside n) ts us s))
     simple (F.assert_of {ts = ts} {us = us} {e = e} {m = m} p q) s =
         and_from (fits_at n Expression e) (perhaps_fits n Expression (optional m)) (slots (outside n) p (left (outside n) ts us s))
-        (behind_fits refl q (right (outside n) ts (expression_closes p) us s))
+        (after_fits refl q (right (outside n) ts (expression_closes p) us s))
     simple (F.delete c) s = delete_fits c s
     simple (F.global {xs = xs} c) s = and_from (has_one xs) (list_all n.name xs) (some_commas c)
         (commas_fit n.name name_closes (λ ts a. name_fits) c s)
@@ -313,7 +313,7 @@ module _ (n : Tests) where
         let u = right (outside n) us (type_params_close t).is (Op Sign.LPar ∷ (vs ++ (Op Sign.RPar ∷ ws))) w.1 in
         from4 (n.name x.form) (fits_arguments n true a) (perhaps_fits n Expression (optional r)) (types_fit profile n tps)
         w.0 (arranged_fit n true ps a (listing (outside n) c (left (outside n) vs (Op Sign.RPar ∷ ws) u)) h)
-        (behind_fits refl q (right (outside n) vs (listing_closes c) (Op Sign.RPar ∷ ws) u))
+        (after_fits refl q (right (outside n) vs (listing_closes c) (Op Sign.RPar ∷ ws) u))
         (type_params t (left (outside n) us (Op Sign.LPar ∷ (vs ++ (Op Sign.RPar ∷ ws))) w.1))
     header {profile} (F.class_line {x = x} {ts = ts} {us = us} {tps = tps} {es = es} {ks = ks} t b) s =
         let w = and_parts (n.name x.form) (pass_at (outside n) (ts ++ us)) s in
@@ -346,7 +346,7 @@ module _ (n : Tests) where
         let w = (and_parts (n.name f) (pass_at (outside n) (ts ++ us)) s).1 in
         from3 (is_whole profile.extent) (pattern_fits_at n AsPattern p) (perhaps_fits n Expression (optional g)) q
         (fits_anywhere n PatternLevel.Patterns AsPattern p refl (fits n d (left (outside n) ts us w)))
-        (guard g (behind_fits refl b (right (outside n) ts (pattern_closes d) us w)))
+        (guard g (after_fits refl b (right (outside n) ts (pattern_closes d) us w)))
 
     pub placed : {profile : Profile} {inside : Bool} {ts : List Terminal} {f : Form} → F.FormAt profile inside ts f
         → pass_at (outside n) ts ≡ true → form_fits profile n f ≡ true

@@ -25,7 +25,7 @@ use Rattle.pytree_fits.specs.Given.{is_number, is_literal, passes}
 use Rattle.pytree_fits.specs.PatternSlots.{is_sum, imaginary_fits, real_fits, literal_fits, dotted_fits, starts_wild, class_fits}
 use Rattle.pytree_fits.specs.PatternSlots.{is_attribute, is_singleton, singleton_fits, key_fits, count_patterns, target_fits}
 use Rattle.pytree_fits.specs.PatternSlots.{pattern_fits_at, each_pattern_fits}
-use Rattle.pytree_fits.proofs.Fields.Standing.{outside, pass_at, left, right, behind}
+use Rattle.pytree_fits.proofs.Fields.Standing.{outside, pass_at, left, right, following}
 use Rattle.pytree_fits.proofs.Fields.Closings.{quiet_left, dotted_closes, signed_closes}
 use Rattle.pytree_fits.proofs.Fields.Tests.{from3, joined_value}
 use Rattle.pytree_fits.proofs.Fitting.Fits.{joined_of}
@@ -75,7 +75,7 @@ module _ (n : Tests) where
   literal : {ts : List Terminal} {e : Expr} → G.LiteralOf ts e → pass_at (outside n) ts ≡ true → literal_fits n e ≡ true
   literal (G.number p) s = signed_fits p s
   literal (G.complex {w = w} {ts = ts} {a = a} {o = o} t p h q k) s =
-      let u = number_passes w (behind (outside n) t (quiet_left Sum t o q []) (Number w ∷ [])
+      let u = number_passes w (following (outside n) t (quiet_left Sum t o q []) (Number w ∷ [])
       (right (outside n) ts (signed_closes p) (t ∷ (Number w ∷ [])) s)) in
       from3 (is_sum o) (real_fits n a) (imaginary_fits n (Trees.Constant w)) (sum_operator t o q)
       (signed_real p h (left (outside n) ts (t ∷ (Number w ∷ [])) s))

@@ -41,7 +41,7 @@ use Rattle.pytree_fits.proofs.Giving.FormGives.{assign_given, delete_given, augm
 use Rattle.pytree_fits.proofs.Giving.FormGives.{assert_given, return_given, value_given, global_given, nonlocal_given, import_given}
 use Rattle.pytree_fits.proofs.Giving.FormGives.{import_from_given, if_given, while_given, for_given, with_given, except_given}
 use Rattle.pytree_fits.proofs.Giving.FormGives.{function_given, class_given, match_given, case_given}
-use Rattle.pytree_fits.proofs.Giving.LinePlaces.{Placed, none_placed, placed_on, block_of, led_on, behind_line, headed, headed_by, cased}
+use Rattle.pytree_fits.proofs.Giving.LinePlaces.{Placed, none_placed, placed_on, block_of, led_on, after_line, headed, headed_by, cased}
 
 -- ---- The statements of a tree's list.
 
@@ -122,17 +122,17 @@ module _ (p : Profile) (n : Tests) (words : Words n) where
     lines = line l (simple_form (s ∷ [])) ∷ [];
     some = refl;
     given =
-        behind_line p n (w.0, w.1, F.simple_statements (F.last_simple w.2)) (none_placed p n);
+        after_line p n (w.0, w.1, F.simple_statements (F.last_simple w.2)) (none_placed p n);
     is = simple_line;
   }
 
   -- what may stand after a block
-  record Behind (l : ℕ) (ss : Stmts) : Type 0 where
+  record Following (l : ℕ) (ss : Stmts) : Type 0 where
     lines : List Line
     given : Placed p n l false lines
     is : Otherwise l lines (of_stmts ss)
 
-  otherwise : (l : ℕ) (ss : Stmts) → DrawnAll (suc l) ss → Behind l ss
+  otherwise : (l : ℕ) (ss : Stmts) → DrawnAll (suc l) ss → Following l ss
   otherwise l no_stmt d = record { lines = []; given = none_placed p n; is = no_else }
   otherwise l (a_stmt s ss) d = record {
     lines = line l (header_form else_header None) ∷ d.lines;
@@ -278,7 +278,7 @@ module _ (p : Profile) (n : Tests) (words : Words n) where
       let u = P.at (outside n) Named (made (outside n) Expression e w.0) in
       record {
         lines = line l (decorator_form e) ∷ d.lines;
-        given = behind_line p n (Op Sign.At ∷ u.0, u.1, F.decorator_line u.2)
+        given = after_line p n (Op Sign.At ∷ u.0, u.1, F.decorator_line u.2)
             d.given;
         is = decorator d.is;
       }
@@ -296,9 +296,9 @@ module _ (p : Profile) (n : Tests) (words : Words n) where
   defined_is es (class_head name parameters bases keywords) body =
       ap (λ z. Trees.ClassDef name bases keywords z es parameters) (stmts_back body)
 
-  some_behind : (xs : List Line) (y : Line) (ys : List Line) → has_one (xs ++ (y ∷ ys)) ≡ true
-  some_behind [] y ys = refl
-  some_behind (x ∷ xs) y ys = refl
+  some_after : (xs : List Line) (y : Line) (ys : List Line) → has_one (xs ++ (y ∷ ys)) ≡ true
+  some_after [] y ys = refl
+  some_after (x ∷ xs) y ys = refl
 
   definition_drawn : (l : ℕ) (es : List Expr) (head : DefHead) (body : Stmts) → each_fits n Expression (exprs es) ≡ true
       → GivenAsSpelled (outside n) (F.HeaderOf p) (def_header head) → has_stmt body ≡ true → DrawnAll (suc l) body
@@ -308,7 +308,7 @@ module _ (p : Profile) (n : Tests) (words : Words n) where
       let xs = d.lines ++ (line l (header_form (def_header head) None) ∷ b.lines) in
       record {
         lines = xs;
-        some = some_behind d.lines (line l (header_form (def_header head) None)) b.lines;
+        some = some_after d.lines (line l (header_form (def_header head) None)) b.lines;
         given = placed_on p n d.given (headed p n l (def_header head) g (block_of p n b.given));
         is = subst (λ z. Statement l xs (z ∷ [])) (defined_is es head body) (definition_of head d.is (body_of f b));
       }

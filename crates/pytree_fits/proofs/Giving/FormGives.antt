@@ -68,10 +68,10 @@ module _ (n : Tests) where
   perhaps l None h = ([], refl, F.left_out)
   perhaps l (Some e) h = let u = made (outside n) l e h in (u.0, u.1, F.given u.2)
 
-  behind_given : (t : Terminal) (l : Level) (e : Option Expr) → Passed (outside n) (t ∷ []) → perhaps_fits n l (optional e) ≡ true
-      → GivenAsSpelled (outside n) (F.Behind t l) e
-  behind_given t l None p h = ([], refl, F.none_behind)
-  behind_given t l (Some e) p h = let u = made (outside n) l e h in (t ∷ u.0, pass_on (outside n) (t ∷ []) u.0 p u.1, F.behind u.2)
+  after_given : (t : Terminal) (l : Level) (e : Option Expr) → Passed (outside n) (t ∷ []) → perhaps_fits n l (optional e) ≡ true
+      → GivenAsSpelled (outside n) (F.Following t l) e
+  after_given t l None p h = ([], refl, F.none_after)
+  after_given t l (Some e) p h = let u = made (outside n) l e h in (t ∷ u.0, pass_on (outside n) (t ∷ []) u.0 p u.1, F.following u.2)
 
   as_given : (x : Option Identifier) → perhaps_name n.name x ≡ true → GivenAsSpelled (outside n) F.As x
   as_given None h = ([], refl, F.no_as)
@@ -87,7 +87,7 @@ module _ (n : Tests) where
   type_param : (p : TypeParam) → type_param_fits n p ≡ true → GivenAsSpelled (outside n) F.TypeParamOf p
   type_param (Trees.TypeVar x bound) h =
       let w = and_parts (n.name x) (perhaps_fits n Expression (optional bound)) h in
-      let u = behind_given (Op Sign.Colon) Expression bound refl w.1 in
+      let u = after_given (Op Sign.Colon) Expression bound refl w.1 in
       (in_form x ∷ u.0, named_pass (outside n) x u.0 w.0 u.1, F.type_var u.2)
   type_param (Trees.TypeVarTuple x) h = (Op Sign.Star ∷ (in_form x ∷ []), named_pass (outside n) x [] h refl, F.type_var_tuple)
   type_param (Trees.ParamSpec x) h = (Op Sign.DoubleStar ∷ (in_form x ∷ []), named_pass (outside n) x [] h refl, F.param_spec)
@@ -209,7 +209,7 @@ module _ (n : Tests) where
     annotated_given t a v false h s p q =
         let u = single_given n t h in
         let w = made (outside n) Expression a p in
-        let z = behind_given (Op Sign.Equal) Value v refl q in (
+        let z = after_given (Op Sign.Equal) Value v refl q in (
           Op Sign.LPar ∷ (u.0 ++ (Op Sign.RPar ∷ (Op Sign.Colon ∷ (w.0 ++ z.0)))),
           pass_on (outside n) u.0 (Op Sign.RPar ∷ (Op Sign.Colon ∷ (w.0 ++ z.0))) u.1 (pass_on (outside n) w.0 z.0 w.1 z.1),
           F.annotated_group u.2 w.2 z.2,
@@ -217,7 +217,7 @@ module _ (n : Tests) where
     annotated_given (Trees.Name x c) a v true h s p q =
         let k = and_parts (is_context Store c) (n.name x) h in
         let w = made (outside n) Expression a p in
-        let z = behind_given (Op Sign.Equal) Value v refl q in
+        let z = after_given (Op Sign.Equal) Value v refl q in
         in_context (λ k. GivenAsSpelled (outside n) (F.Simple profile) (Trees.AnnAssign (Trees.Name x k) a v true)) Store c k.0 (
           in_form x ∷ (Op Sign.Colon ∷ (w.0 ++ z.0)),
           named_pass (outside n) x (Op Sign.Colon ∷ (w.0 ++ z.0)) k.1
@@ -250,7 +250,7 @@ module _ (n : Tests) where
     pub raise_given : (e c : Option Expr) → raised_fits n e c ≡ true → GivenAsSpelled (outside n) (F.Simple profile) (Trees.Raise e c)
     raise_given None None h = (Word Key.Raise ∷ [], refl, F.raise_alone)
     raise_given (Some e) None h = let u = made (outside n) Expression e h in
-        (Word Key.Raise ∷ (u.0 ++ []), pass_on (outside n) u.0 [] u.1 refl, F.raise_of u.2 F.none_behind)
+        (Word Key.Raise ∷ (u.0 ++ []), pass_on (outside n) u.0 [] u.1 refl, F.raise_of u.2 F.none_after)
     raise_given None (Some c) h = absurd (never h)
     raise_given (Some e) (Some c) h =
         let w = and_parts (fits_at n Expression e) (fits_at n Expression c) h in
@@ -258,14 +258,14 @@ module _ (n : Tests) where
         let v = made (outside n) Expression c w.1 in (
           Word Key.Raise ∷ (u.0 ++ (Word Key.From ∷ v.0)),
           pass_on (outside n) u.0 (Word Key.From ∷ v.0) u.1 v.1,
-          F.raise_of u.2 (F.behind v.2),
+          F.raise_of u.2 (F.following v.2),
         )
 
     pub assert_given : (e : Expr) (m : Option Expr) → fits_at n Expression e ≡ true → perhaps_fits n Expression (optional m) ≡ true
         → GivenAsSpelled (outside n) (F.Simple profile) (Trees.Assert e m)
     assert_given e m h q =
         let u = made (outside n) Expression e h in
-        let v = behind_given (Op Sign.Comma) Expression m refl q in
+        let v = after_given (Op Sign.Comma) Expression m refl q in
         (Word Key.Assert ∷ (u.0 ++ v.0), pass_on (outside n) u.0 v.0 u.1 v.1, F.assert_of u.2 v.2)
 
     pub return_given : (e : Option Expr) → perhaps_fits n Stars (optional e) ≡ true
@@ -378,7 +378,7 @@ module _ (n : Tests) where
         let s = async_given b in
         let u = type_params profile tps t in
         let v = parameters_given n true a f in
-        let w = behind_given (Op Sign.RArrow) Expression r refl q in
+        let w = after_given (Op Sign.RArrow) Expression r refl q in
         let us = u.0 ++ (Op Sign.LPar ∷ (v.0 ++ (Op Sign.RPar ∷ w.0))) in (
           s.0 ++ (Word Key.Def ∷ (in_form x ∷ us)),
           pass_on (outside n) s.0 (Word Key.Def ∷ (in_form x ∷ us)) s.1
@@ -427,7 +427,7 @@ module _ (n : Tests) where
         → perhaps_fits n Expression (optional g) ≡ true → GivenAsSpelled (outside n) F.CaseOf (case_header p g)
     case_given p g m h q =
         let u = pattern_given n Patterns p (fits_anywhere n AsPattern Patterns p refl h) in
-        let v = behind_given (Word Key.If) Named g refl (guard g q) in (
+        let v = after_given (Word Key.If) Named g refl (guard g q) in (
           in_form case_name ∷ (u.0 ++ v.0),
           named_pass (outside n) case_name (u.0 ++ v.0) m (pass_on (outside n) u.0 v.0 u.1 v.1),
           F.case_line case_name u.2 v.2,

@@ -1,4 +1,4 @@
--- Carries: the law of modules. On: lines of a level are given at their places, behind whatever
+-- Carries: the law of modules. On: lines of a level are given at their places, after whatever
 -- earlier lines: those of a `match` are its cases, and no other line stands in one.
 use Rattle.std.proofs.Common.{◌≡◌, refl, sym, ap, subst, ◌∙◌, ℕ, suc, arith, List, [], ◌∷◌, ◌++◌, None, Bool, true, false, cond}
 use Rattle.std.specs.Prelude.{leb, ◌&&◌}
@@ -16,9 +16,9 @@ use Rattle.pytree_fits.proofs.Fields.Standing.{outside}
 use Rattle.pytree_fits.proofs.Fields.AsSpelled.{GivenAsSpelled, AreGivenAsSpelled, none_spelled, one_spelled, pass_on}
 use Rattle.pyunparse_text.proofs.Callers.Said.{under}
 
--- ---- Lines behind lines.
+-- ---- Lines after lines.
 
--- earlier lines, and these behind them; the nearest comes first
+-- earlier lines, and these after them; the nearest comes first
 abbrev pushed : List Line → List Line → List Line
 pushed [] earlier = earlier
 pushed (x ∷ xs) earlier = pushed xs (x ∷ earlier)
@@ -43,9 +43,9 @@ same_place : (l : ℕ) (x : Line) (earlier : List Line) → leb l x.level ≡ tr
 same_place l x earlier h = ap (λ b. cond b (is_match (kind_of x.form)) (stands_in_match l earlier))
     (le-ltb x.level l (leb-true l x.level h))
 
-stands_behind : (l : ℕ) (xs earlier : List Line) → are_deep l xs ≡ true → stands_in_match l (pushed xs earlier) ≡ stands_in_match l earlier
-stands_behind l [] earlier h = refl
-stands_behind l (x ∷ xs) earlier h = let w = and_parts (leb l x.level) (are_deep l xs) h in stands_behind l xs (x ∷ earlier) w.1
+stands_following : (l : ℕ) (xs earlier : List Line) → are_deep l xs ≡ true → stands_in_match l (pushed xs earlier) ≡ stands_in_match l earlier
+stands_following l [] earlier h = refl
+stands_following l (x ∷ xs) earlier h = let w = and_parts (leb l x.level) (are_deep l xs) h in stands_following l xs (x ∷ earlier) w.1
     ∙ same_place l x earlier w.0
 
 -- outside of a `match` no line is a case
@@ -74,10 +74,10 @@ module _ (p : Profile) (n : Tests) where
   pub placed_on : {l : ℕ} {inside : Bool} {xs ys : List Line} → Placed l inside xs → Placed l inside ys → Placed l inside (xs ++ ys)
   placed_on {l} {inside} {xs} {ys} f g = record {
     deep = deep_on l xs ys f.deep g.deep;
-    given = λ earlier e. given_on xs (f.given earlier e) (g.given (pushed xs earlier) (stands_behind l xs earlier f.deep ∙ e));
+    given = λ earlier e. given_on xs (f.given earlier e) (g.given (pushed xs earlier) (stands_following l xs earlier f.deep ∙ e));
   }
 
-  -- ---- Behind a header: its block, and more lines of its level.
+  -- ---- After a header: its block, and more lines of its level.
 
   pub record Led (l : ℕ) (inside : Bool) (h : Header) (xs : List Line) : Type 0 where
     pub deep : are_deep l xs ≡ true
@@ -95,11 +95,11 @@ module _ (p : Profile) (n : Tests) where
       let x : Line = line l (header_form h None) in
       record {
         deep = deep_on l xs ys f.deep g.deep;
-        given = λ earlier e. given_on xs (f.given earlier e) (g.given (pushed xs (x ∷ earlier)) (stands_behind l xs (x ∷ earlier) f.deep
+        given = λ earlier e. given_on xs (f.given earlier e) (g.given (pushed xs (x ∷ earlier)) (stands_following l xs (x ∷ earlier) f.deep
             ∙ same_place l x earlier (le-leb l l (omega arith)) ∙ e));
       }
 
-  -- ---- A line, and those behind it.
+  -- ---- A line, and those after it.
 
   first_deep : (l : ℕ) (f : Form) (xs : List Line) → are_deep l xs ≡ true → are_deep l (line l f ∷ xs) ≡ true
   first_deep l f xs h = and_from (leb l l) (are_deep l xs) (le-leb l l (omega arith)) h
@@ -108,7 +108,7 @@ module _ (p : Profile) (n : Tests) where
       → GivenAsSpelled (outside n) (F.FormAt p inside) f
   other_form inside e w = (w.0, w.1, F.other_line (outside_match p inside w.0 e) w.2)
 
-  -- a line, behind which these are given
+  -- a line, after which these are given
   one_line : (l : ℕ) {f : Form} {xs : List Line} → GivenAsSpelled (outside n) (F.FormOf p) f
       → ((earlier : List Line) → stands_in_match l earlier ≡ false → AreGivenAsSpelled p n (line l f ∷ earlier) xs) →
       are_deep l xs ≡ true → Placed l false (line l f ∷ xs)
@@ -118,9 +118,9 @@ module _ (p : Profile) (n : Tests) where
   }
 
   -- more lines of its level
-  pub behind_line : {l : ℕ} {f : Form} {xs : List Line} → GivenAsSpelled (outside n) (F.FormOf p) f → Placed l false xs
+  pub after_line : {l : ℕ} {f : Form} {xs : List Line} → GivenAsSpelled (outside n) (F.FormOf p) f → Placed l false xs
       → Placed l false (line l f ∷ xs)
-  behind_line {l} {f} {xs} w r =
+  after_line {l} {f} {xs} w r =
       one_line l w (λ earlier e. r.given (line l f ∷ earlier) (same_place l (line l f) earlier (le-leb l l (omega arith)) ∙ e)) r.deep
 
   pub headed_by : (l : ℕ) (h : Header) {xs : List Line} → GivenAsSpelled (outside n) (F.FormOf p) (header_form h None) → Led l false h xs

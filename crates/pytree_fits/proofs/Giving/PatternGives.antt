@@ -217,7 +217,7 @@ module _ (n : Tests) where
     pieces : Pieces n ClassArgument list
     all : all_named list ≡ true
     first : are_class_arguments false list ≡ true
-    behind : not (begins_with_wildcard names) ≡ true → are_class_arguments true list ≡ true
+    following : not (begins_with_wildcard names) ≡ true → are_class_arguments true list ≡ true
     none_alone : elements list ≡ no_pattern
     names_are : named_attributes list ≡ names
     patterns_are : named_patterns list ≡ named
@@ -229,7 +229,7 @@ module _ (n : Tests) where
     pieces = no_piece;
     all = refl;
     first = refl;
-    behind = λ q. refl;
+    following = λ q. refl;
     none_alone =
         refl;
     names_are = refl;
@@ -249,7 +249,7 @@ module _ (n : Tests) where
         ) m.pieces;
         all = m.all;
         first = m.all;
-        behind = λ q. and_from (not (is_wildcard x)) (all_named m.list) q m.all;
+        following = λ q. and_from (not (is_wildcard x)) (all_named m.list) q m.all;
         none_alone = m.none_alone;
         names_are = ap (λ z. x ∷ z) m.names_are;
         patterns_are = ap (a_pattern p) m.patterns_are;
@@ -258,7 +258,7 @@ module _ (n : Tests) where
   record Arguments (inner : Patterns) (names : List Identifier) (named : Patterns) : Type 0 where
     list : List PatternEntry
     pieces : Pieces n ClassArgument list
-    behind : not (begins_with_wildcard names) ≡ true → are_class_arguments true list ≡ true
+    following : not (begins_with_wildcard names) ≡ true → are_class_arguments true list ≡ true
     alone_are : elements list ≡ inner
     names_are : named_attributes list ≡ names
     patterns_are : named_patterns list ≡ named
@@ -269,7 +269,7 @@ module _ (n : Tests) where
       record {
         list = b.list;
         pieces = b.pieces;
-        behind = b.behind;
+        following = b.following;
         alone_are = b.none_alone;
         names_are = b.names_are;
         patterns_are = b.patterns_are;
@@ -279,7 +279,7 @@ module _ (n : Tests) where
       record {
         list = Alone p ∷ m.list;
         pieces = a_piece (w.0, w.1, G.argument (climb AsPattern w.2)) m.pieces;
-        behind = m.behind;
+        following = m.following;
         alone_are = ap (a_pattern p) m.alone_are;
         names_are = m.names_are;
         patterns_are = m.patterns_are;
@@ -310,7 +310,7 @@ module _ (n : Tests) where
       by no_more = b.first
   class_pattern_given cls (a_pattern p ps) names named c (one_more w s) b o =
       listed_class cls c (arguments (a_pattern p ps) names named (one_more w s) b)
-      ((arguments ps names named s b).behind (elim (or_cases (eqb (count_patterns ps + 1) 0) (not (begins_with_wildcard names)) o) [
+      ((arguments ps names named s b).following (elim (or_cases (eqb (count_patterns ps + 1) 0) (not (begins_with_wildcard names)) o) [
         | inl z ↦ absurd (omega (arith, eqb-true (count_patterns ps + 1) 0 z))
         | inr z ↦ z
       ]))

@@ -18,7 +18,7 @@ use Rattle.pygrammar.proofs.Callers.OpenStrings.{one_less}
 use Rattle.pytree_fits.specs.Literals.{has_text, has_formatted_text}
 use Rattle.pytree_fits.specs.Slots.{is_kind, is_last, have_kind, may_be_joined}
 use Rattle.pytree_fits.proofs.Fields.Standing.{Standing, here, in_string}
-use Rattle.pytree_fits.proofs.Fields.AsSpelled.{Ends, GivenAsSpelled, pass_on, pass_past, pass_behind, pass_in_front}
+use Rattle.pytree_fits.proofs.Fields.AsSpelled.{Ends, GivenAsSpelled, pass_on, pass_past, pass_after, pass_in_front}
 use Rattle.pytree_fits.proofs.Fields.Tests.{parts3}
 use Rattle.pytree_fits.proofs.Giving.Places as P
 
@@ -28,7 +28,7 @@ abbrev made_of : (in_spec : Bool) → Bool → List StringPart → Exprs
 made_of true u ps = spec_values_of u ps
 made_of false u ps = values_of u ps
 
--- parts that are given, no two texts of which stand side by side, behind a text or not
+-- parts that are given, no two texts of which stand side by side, after a text or not
 pub record Formed (n : Standing) (u s b : Bool) (es : Exprs) : Type 0 where
   pub parts : List StringPart
   pub given : GivenAsSpelled n (G.Formatted u) parts
@@ -103,13 +103,13 @@ module _ (n : Standing) (d : ℕ) (u s : Bool) where
       let m : Standing = in_string n (suc d) in
       let w = f.given in
       let ts : List Terminal = p.0 ++ (Op RPar ∷ []) in
-      let rest : Ends m (d ∷ n.opened) (FieldEnd ∷ w.0) = pass_behind m FieldEnd (d ∷ n.opened) (d ∷ n.opened) w.0 refl
+      let rest : Ends m (d ∷ n.opened) (FieldEnd ∷ w.0) = pass_after m FieldEnd (d ∷ n.opened) (d ∷ n.opened) w.0 refl
       (ap (λ k. k ∷ n.opened) (one_less d)) w.1 in
       record {
         parts = Field (Trees.FormattedValue v c a) ∷ f.parts;
         given = (
           FieldBegin c ∷ (Op LPar ∷ (ts ++ (q.0 ++ (FieldEnd ∷ w.0)))),
-          pass_behind (in_string n d) (FieldBegin c) (suc d ∷ n.opened) (d ∷ n.opened) (Op LPar ∷ (ts ++ (q.0 ++ (FieldEnd ∷ w.0)))) h refl
+          pass_after (in_string n d) (FieldBegin c) (suc d ∷ n.opened) (d ∷ n.opened) (Op LPar ∷ (ts ++ (q.0 ++ (FieldEnd ∷ w.0)))) h refl
               (pass_past m (d ∷ n.opened) (Op LPar ∷ ts) (q.0 ++ (FieldEnd ∷ w.0)) (pass_on m p.0 (Op RPar ∷ []) p.1 refl)
               (pass_past m (d ∷ n.opened) q.0 (FieldEnd ∷ w.0) q.1 rest)),
           G.field_part (G.group (G.next {l = Named} p.2)) q.2 w.2,
@@ -149,7 +149,7 @@ module _ (n : Standing) (es : Exprs) (stands : (is_whole (here n).extent && leb 
   alone u f =
       let w = f.given in (
         FormattedBegin ∷ (w.0 ++ (FormattedEnd ∷ [])),
-        pass_behind n FormattedBegin (0 ∷ n.opened) n.opened (w.0 ++ (FormattedEnd ∷ [])) stands refl
+        pass_after n FormattedBegin (0 ∷ n.opened) n.opened (w.0 ++ (FormattedEnd ∷ [])) stands refl
             (pass_past (in_string n 0) n.opened w.0 (FormattedEnd ∷ []) w.1 refl),
         G.formatted_literal w.2 G.no_literal,
       )
@@ -168,7 +168,7 @@ module _ (n : Standing) (es : Exprs) (stands : (is_whole (here n).extent && leb 
     values_are = are false f;
   }
 
-  -- behind an empty text of its kind
+  -- after an empty text of its kind
   pub unicode_joined : Formed (in_string n 0) true false false es → Joined n es
   unfolding alone
   unicode_joined f =

@@ -4,18 +4,18 @@
 use Rattle.std.proofs.Common.{◌≡◌, ℕ, ◌+◌, List, [], ◌∷◌, Bool, true, false, cond, drop, refl, ap, ◌∙◌, arith}
 use Rattle.std.proofs.lemmas.List.{drop-drop}
 use Rattle.pytree_dump_text.specs.Shows.{Shown, Showns, Fields, Scalar, Row, Node, no_shown, a_shown, no_field, a_field, left_out}
-use Rattle.pytree_marked.specs.MarkedNodes.{Attributes, behind, fields_with, is_marked, marked, marked_fields, marked_rows, rows_with}
+use Rattle.pytree_marked.specs.MarkedNodes.{Attributes, following, fields_with, is_marked, marked, marked_fields, marked_rows, rows_with}
 use Rattle.pytree_marked.specs.MarkedNodes.{with_places}
 
-behind_one : (ps : List Attributes) → behind true ps ≡ drop 1 ps
-behind_one [] = refl
-behind_one (p ∷ ps) = refl
+following_one : (ps : List Attributes) → following true ps ≡ drop 1 ps
+following_one [] = refl
+following_one (p ∷ ps) = refl
 
-node_taken : (m : Bool) (n : ℕ) (ps qs : List Attributes) → qs ≡ drop n ps → behind m qs ≡ drop (cond m (1 + n) n) ps
+node_taken : (m : Bool) (n : ℕ) (ps qs : List Attributes) → qs ≡ drop n ps → following m qs ≡ drop (cond m (1 + n) n) ps
 node_taken false n ps qs e = e
 node_taken true n ps qs e =
     let k : n + 1 ≡ 1 + n = omega arith in
-    ap (behind true) e ∙ behind_one (drop n ps) ∙ drop-drop 1 n ps ∙ ap (λ m. drop m ps) k
+    ap (following true) e ∙ following_one (drop n ps) ∙ drop-drop 1 n ps ∙ ap (λ m. drop m ps) k
 
 mutual
   pub taken : (x : Shown) (ps : List Attributes) → (with_places ps x).left ≡ drop (marked x) ps

@@ -9,7 +9,7 @@ use Rattle.pytree_node.specs.Trees
 use Rattle.pytree_dump_text.specs.Shows.{Shown, Fields, Scalar, Row, Node, no_shown, a_shown, no_field, a_field, left_out, shown}
 use Rattle.pytree_dump_text.specs.Shows.{shown_pattern}
 use Rattle.pytree_dump_text.specs.Layout.{all_simple, is_short, is_simple, shown_count}
-use Rattle.pytree_marked.specs.MarkedNodes.{Attributes, behind, closed, fields_with, is_marked, own, with_members, with_places}
+use Rattle.pytree_marked.specs.MarkedNodes.{Attributes, following, closed, fields_with, is_marked, own, with_members, with_places}
 use Rattle.pytree_marked.specs.Taking.{is_none_left}
 use Rattle.pytree_marked.proofs.Callers.Unplaced.{closed_unplaced}
 
@@ -56,7 +56,7 @@ grown m ps fs (suc n) e is some =
     omega (arith, c, k, e)
 
 took_node : (m : Bool) (ps : List Attributes) (fs : Fields) (n : ℕ) → shown_count fs ≡ n → is_none_left ps ≡ false →
-    is_none_left (behind m (fields_with ps fs).left) ≡ true
+    is_none_left (following m (fields_with ps fs).left) ≡ true
     → 0 < shown_count (with_members (fields_with ps fs).shown (own m (fields_with ps fs).left))
 took_node true ps fs n e some none = grown true ps fs n e refl some
 took_node false ps fs zero e some none = absurd (both_ways (is_none_left ps) some (sym (ap is_none_left (untouched ps fs e)) ∙ none))
@@ -160,9 +160,9 @@ short_led : (ps : List Attributes) (name : List ℕ) (x : Shown) (rest : Fields)
 short_led [] name x rest is = ap (λ z. is_short z.shown) (closed_unplaced false [] (a_field name x rest) refl)
 short_led (p ∷ ps) name x rest is =
     let one = with_places (p ∷ ps) x in
-    let behind_it : Fields = with_members (fields_with one.left rest).shown no_field in
-    ap (λ b. nat_le (shown_count behind_it + 1) 3 && (b && all_simple behind_it)) (led_full (p ∷ ps) x refl is)
-    ∙ and_right (nat_le (shown_count behind_it + 1) 3) false refl
+    let after_it : Fields = with_members (fields_with one.left rest).shown no_field in
+    ap (λ b. nat_le (shown_count after_it + 1) 3 && (b && all_simple after_it)) (led_full (p ∷ ps) x refl is)
+    ∙ and_right (nat_le (shown_count after_it + 1) 3) false refl
 
 pub led_line : (flat short line : Bool) (ps : List Attributes) (name : List ℕ) (x : Shown) (rest : Fields) → is_marked_node x ≡ true →
     line ≡ (if is_none_left ps then short else flat) → short ≡ (flat || is_short (a_field name x rest)) →

@@ -28,7 +28,7 @@ use Rattle.pytoken.proofs.Callers.Bodies.{read_again}
 use Rattle.pyunparse_text.specs.Levels.{reaches}
 use Rattle.pyunparse_text.specs.Marks.{in_role}
 use Rattle.pyunparse_text.specs.Pieces.{piece, pieces}
-use Rattle.pyunparse_text.specs.Written.{Text, by_name, clauses, conditions, each, element_level, elements_behind, field, first_text, free}
+use Rattle.pyunparse_text.specs.Written.{Text, by_name, clauses, conditions, each, element_level, elements_after, field, first_text, free}
 use Rattle.pyunparse_text.specs.Written.{gathered, leading, listed, names, pairs, spec_elements, suffixed, tight, trailing, tuple_level}
 use Rattle.pyunparse_text.specs.Written.{with_star, written, written_keys}
 use Rattle.pyunparse.specs.Inner.Arguments.{argument, argument_name}
@@ -717,7 +717,7 @@ strings::write_joined-returns g t c = IfOk-equal _ _ _ _ c.write_string-2.ensure
 
 pub strings::write_string-returns : goal.strings::write_string-returns
 strings::write_string-returns g t c = string_end g.W.Writer.after g.W.Writer.step _ _ g.W.Writer.is_in_field _ _ c.args.out.now _
-    (Text false c.args.text.now ∷ elements_behind piece false (exprs (map tree_of c.args.values.now)))
+    (Text false c.args.text.now ∷ elements_after piece false (exprs (map tree_of c.args.values.now)))
     c.end_string.ensures c.in_ok-in_field.ensures.site c.in_ok-in_field.ensures.begun
     (string_on g.W.Writer.after g.W.Writer.step _
     (exprs (map tree_of c.args.values.now)) c.args.text.now _ _ _ c.in_ok-put_text.ensures c.in_ok-write_values.ensures)

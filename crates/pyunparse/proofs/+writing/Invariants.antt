@@ -8,7 +8,7 @@ use Rattle.pygrammar.specs.declared.levels.Level.TheVariants.{BitOr, Expression}
 use Rattle.pytree_height.specs.Heights.{arg_height, arg_heights, arguments_height, comprehension_heights, height, heights, keyword_heights}
 use Rattle.pytree_height.specs.Heights.{optional_arg_height, optional_height, optional_heights}
 use Rattle.pyunparse_text.specs.Pieces.{piece}
-use Rattle.pyunparse_text.specs.Written.{behind_equal, beside, by_name, clauses, compared, conditions, defaults, each, elements_behind}
+use Rattle.pyunparse_text.specs.Written.{after_equal, beside, by_name, clauses, compared, conditions, defaults, each, elements_after}
 use Rattle.pyunparse_text.specs.Written.{names, pairs, trailing, written_keys}
 use Rattle.pyunparse.specs.Inner.Clauses.{clause_height}
 use Rattle.pyunparse_text.specs.Folds.{puts, puts_elements}
@@ -55,10 +55,10 @@ abbrev pub invariant-parameters::write_plain-loop-i : goal.invariant-parameters:
 invariant-parameters::write_plain-loop-i g l =
     puts g.W.Writer.after l.out (members l.first (trailing piece Comma)
     (padded (names piece (args (map arg_of (drop l.i l.params)))) (l.bare - l.i)
-    (map (behind_equal piece) (each piece Expression (exprs (map tree_of (drop (l.i - l.bare) l.given)))))))
+    (map (after_equal piece) (each piece Expression (exprs (map tree_of (drop (l.i - l.bare) l.given)))))))
     ≡ puts g.W.Writer.after l.initial.out (members l.is_first (trailing piece Comma)
     (padded (names piece (args (map arg_of l.params))) l.bare
-    (map (behind_equal piece) (each piece Expression (exprs (map tree_of l.given))))))
+    (map (after_equal piece) (each piece Expression (exprs (map tree_of l.given))))))
 
 abbrev pub invariant-parameters::write_keyword_only-loop-i : goal.invariant-parameters::write_keyword_only-loop-i
 invariant-parameters::write_keyword_only-loop-i g l =
@@ -72,9 +72,9 @@ invariant-parameters::write_keyword_only-loop-i g l =
 abbrev pub invariant-strings::write_values-loop-i : goal.invariant-strings::write_values-loop-i
 invariant-strings::write_values-loop-i g l =
     puts_elements g.W.Writer.after g.W.Writer.step l.in_field l.out
-    (elements_behind piece l.in_spec (exprs (map tree_of (drop l.i l.values))))
+    (elements_after piece l.in_spec (exprs (map tree_of (drop l.i l.values))))
     ≡ puts_elements g.W.Writer.after g.W.Writer.step l.in_field l.initial.out
-    (elements_behind piece l.in_spec (exprs (map tree_of l.values)))
+    (elements_after piece l.in_spec (exprs (map tree_of l.values)))
 
 abbrev pub decreases-expressions::write_expr : goal.decreases-expressions::write_expr
 decreases-expressions::write_expr g l = 8 * height (tree_of l.e.now)

@@ -24,7 +24,7 @@ use Rattle.pyunparse_text.specs.Folds.{puts, opened, closed}
 use Rattle.pyunparse.proofs.Sequences.FoldLemmas.{fits, five, four, six, three, two}
 
 module _ {S : Type 0} (after : S → Sited → S) (s : S) (l : Level) where
-  -- a form in its brackets, if it needs them, by the states before and behind it
+  -- a form in its brackets, if it needs them, by the states before and after it
   within : (k : Level) (b : Bool) (ts : List Sited) (s1 u : S) → b ≡ reaches l k → s1 ≡ puts after s (opened b) → u ≡ puts after s1 ts
       → puts after u (closed b) ≡ puts after s (fit piece l k ts)
   within k b ts s1 u h e f =

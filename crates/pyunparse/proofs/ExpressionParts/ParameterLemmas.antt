@@ -18,11 +18,11 @@ use Rattle.pygrammar.specs.declared.levels.Level.TheVariants.{Expression}
 use Rattle.pytoken.specs.Terminals.{Op}
 use Rattle.pytoken.proofs.Callers.Bodies.{dropped}
 use Rattle.pyunparse_text.specs.Pieces.{Sited, piece}
-use Rattle.pyunparse_text.specs.Written.{behind_equal, beside, defaults, each, free, gathered, listed, names, parameters, trailing}
+use Rattle.pyunparse_text.specs.Written.{after_equal, beside, defaults, each, free, gathered, listed, names, parameters, trailing}
 use Rattle.pyunparse_text.specs.Written.{with_defaults, with_slash, with_star, written}
 use Rattle.pyunparse_text.specs.Folds.{puts}
 use Rattle.pyunparse.specs.Inner.Members.{members, padded}
-use Rattle.pyunparse.specs.Inner.Parameters.{by_places, default_at, head_default, named, positional, slash_behind}
+use Rattle.pyunparse.specs.Inner.Parameters.{by_places, default_at, head_default, named, positional, slash_following}
 use Rattle.pyunparse_text.proofs.Callers.Writing.{not_zero}
 use Rattle.pyunparse.proofs.Sequences.FoldLemmas.{four, three, two}
 use Rattle.pyunparse.proofs.Sequences.MemberLemmas.{is_nil, members_both, members_none, members_on}
@@ -102,7 +102,7 @@ abbrev pub N : List given_arg.Arg → List (List Sited)
 N ps = names piece (args (map arg_of ps))
 
 abbrev pub D : List given.Expr → List (List Sited)
-D ds = map (behind_equal piece) (each piece Expression (exprs (map tree_of ds)))
+D ds = map (after_equal piece) (each piece Expression (exprs (map tree_of ds)))
 
 pub one_more : (a : Arg) (rest : Args) → names piece (an_arg a rest) ≡ named a ∷ names piece rest
 unfolding written
@@ -215,27 +215,27 @@ parts ps qs ds bare e =
     ∙ (λ k. padded (N ps) bare (D ds) ++ (slash (N ps) ++ padded (N qs) (bare - name_count ps k) (drop (name_count ps k - bare) (D ds))))
     ∙ ap (λ z. padded (N ps) bare (D ds) ++ (slash (N ps) ++ padded (N qs) (bare - length ps) z)) (defaults_left (length ps - bare) ds)
 
--- a list, the `/` behind it if it isn't empty, and another one
+-- a list, the `/` after it if it isn't empty, and another one
 joined : (us xs ys : List (List Sited)) (n : ℕ) → length us ≡ n → length xs ≡ n →
-    members true comma (xs ++ (slash us ++ ys)) ≡ members true comma xs ++ (slash_behind n ++ members (nat_eq n 0) comma ys)
+    members true comma (xs ++ (slash us ++ ys)) ≡ members true comma xs ++ (slash_following n ++ members (nat_eq n 0) comma ys)
 joined [] [] ys zero e h = refl
 joined [] [] ys (suc n) e h = absurd (omega (arith, e))
 joined [] (ts ∷ xs) ys n e h = absurd (omega (arith, e, h))
 joined (u ∷ us) [] ys n e h = absurd (omega (arith, e, h))
 joined (u ∷ us) (ts ∷ xs) ys zero e h = absurd (omega (arith, e))
 joined (u ∷ us) (ts ∷ xs) ys (suc n) e h = members_both true comma (ts ∷ xs) (slash (u ∷ us) ++ ys)
-    ∙ ap (λ z. members true comma (ts ∷ xs) ++ (slash_behind (suc n) ++ members z comma ys)) (sym (not_zero n))
+    ∙ ap (λ z. members true comma (ts ∷ xs) ++ (slash_following (suc n) ++ members z comma ys)) (sym (not_zero n))
 
 pub places_on : {S : Type 0} (after : S → Sited → S) (s : S) (ps qs : List given_arg.Arg) (ds : List given.Expr) (bare : ℕ) (s1 s2 : S) →
     bare ≡ (length ps + length qs) - length ds →
-    s1 ≡ puts after s (members true comma (padded (N ps) bare (D ds))) → s2 ≡ puts after s1 (slash_behind (length ps)) →
+    s1 ≡ puts after s (members true comma (padded (N ps) bare (D ds))) → s2 ≡ puts after s1 (slash_following (length ps)) →
     puts after s2 (members (nat_eq (length ps) 0) comma (padded (N qs) (bare - length ps) (D (drop (length ps - bare) ds))))
     ≡ puts after s (listed piece (by_places (args (map arg_of ps)) (args (map arg_of qs)) (exprs (map tree_of ds))))
 places_on after s ps qs ds bare s1 s2 e e1 e2 =
     let X : List (List Sited) = padded (N ps) bare (D ds) in
     let Y : List (List Sited) = padded (N qs) (bare - length ps) (D (drop (length ps - bare) ds)) in
     let same : length X ≡ length ps = padded_length (N ps) bare (D ds) ∙ name_count ps in
-    three after s (members true comma X) (slash_behind (length ps)) (members (nat_eq (length ps) 0) comma Y) s1 s2 e1 e2
+    three after s (members true comma X) (slash_following (length ps)) (members (nat_eq (length ps) 0) comma Y) s1 s2 e1 e2
     ∙ ap (puts after s) (sym (ap (members true comma) (parts ps qs ds bare e) ∙ joined (N ps) X Y (length ps) (name_count ps) same))
 
 -- ---- All parameters.
@@ -268,7 +268,7 @@ no_star absent_arg [] = refl
 no_star absent_arg (k ∷ ks) = ap (λ z. is_nil (with_star piece [] z)) (one_more (arg_of k) (args (map arg_of ks)))
 no_star (present_arg (arg x t)) ks = refl
 
--- behind a `*` of their own no keyword-only parameter is the first
+-- after a `*` of their own no keyword-only parameter is the first
 none_first : (first a : Bool) (ks : List given_arg.Arg) (kds : OptionalExprs) →
     members (first && (a && is_nil ks)) comma (beside (N ks) (defaults piece kds)) ≡ members false comma
     (beside (N ks) (defaults piece kds))

@@ -1,4 +1,4 @@
--- Carries: write_tuple. A tuple is its elements, with the comma behind one that stands alone, in
+-- Carries: write_tuple. A tuple is its elements, with the comma after one that stands alone, in
 -- brackets where these are needed.
 use Rattle.std.proofs.Common.{◌≡◌, ◌∙◌, Bool, true, false, not, ◌&&◌, List, [], ◌∷◌, ◌++◌, refl, ap, sym, append-nil, append_assoc}
 use Rattle.pylex_lexeme.specs.declared.kinds.Exact.TheVariants.{Comma}

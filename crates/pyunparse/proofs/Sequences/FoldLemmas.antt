@@ -25,7 +25,7 @@ pub fits : {S : Type 0} (after : S → Sited → S) (s : S) (l k : Level) (ts : 
 unfolding fit
 fits after s l k ts = in_brackets after s (reaches l k) ts
 
--- lists behind one another, by the states between
+-- lists after one another, by the states between
 module _ {S : Type 0} (after : S → Sited → S) (s : S) where
   pub two : (a b : List Sited) (s1 : S) → s1 ≡ puts after s a → puts after s1 b ≡ puts after s (a ++ b)
   two a b s1 e1 = ap (λ z. puts after z b) e1 ∙ sym (puts_append after s a b)

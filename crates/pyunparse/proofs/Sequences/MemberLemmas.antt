@@ -12,38 +12,38 @@ use Rattle.pyunparse_text.specs.Levels.{comparison_signs}
 use Rattle.pyunparse_text.specs.Pieces.{Sited, piece, pieces}
 use Rattle.pyunparse_text.specs.Written.{compared, each, free, separated, written}
 use Rattle.pyunparse_text.specs.Folds.{puts, sited_in_utf8}
-use Rattle.pyunparse.specs.Inner.Members.{following, members}
+use Rattle.pyunparse.specs.Inner.Members.{each_after, members}
 use Rattle.pyunparse.proofs.Sequences.FoldLemmas.{puts_append}
 
 abbrev pub is_nil : {A : Type 0} → List A → Bool
 is_nil [] = true
 is_nil (x ∷ xs) = false
 
--- a member and those behind it
-pub separated_on : {A : Type 0} (t : A) (ts : List A) (tss : List (List A)) → separated t (ts ∷ tss) ≡ ts ++ following t tss
+-- a member and those after it
+pub separated_on : {A : Type 0} (t : A) (ts : List A) (tss : List (List A)) → separated t (ts ∷ tss) ≡ ts ++ each_after t tss
 separated_on t ts [] = sym (append-nil ts)
 separated_on t ts (us ∷ uss) = ap (λ z. ts ++ (t ∷ z)) (separated_on t us uss)
 
 pub members_on : {S : Type 0} (after : S → Sited → S) (s : S) (f : Bool) (t : Sited) (ts : List Sited) (tss : List (List Sited)) →
     puts after s (members f t (ts ∷ tss)) ≡ puts after (puts after (puts after s (if f then [] else t ∷ [])) ts) (members false t tss)
-members_on after s true t ts tss = ap (puts after s) (separated_on t ts tss) ∙ puts_append after s ts (following t tss)
-members_on after s false t ts tss = puts_append after (after s (sited_in_utf8 t)) ts (following t tss)
+members_on after s true t ts tss = ap (puts after s) (separated_on t ts tss) ∙ puts_append after s ts (each_after t tss)
+members_on after s false t ts tss = puts_append after (after s (sited_in_utf8 t)) ts (each_after t tss)
 
 -- members of two lists
-following_both : {A : Type 0} (t : A) (xss yss : List (List A)) → following t (xss ++ yss) ≡ following t xss ++ following t yss
-following_both t [] yss = refl
-following_both t (ts ∷ xss) yss = ap (λ z. t ∷ (ts ++ z)) (following_both t xss yss)
-    ∙ ap (λ z. t ∷ z) (sym (append_assoc ts (following t xss) (following t yss)))
+each_after_both : {A : Type 0} (t : A) (xss yss : List (List A)) → each_after t (xss ++ yss) ≡ each_after t xss ++ each_after t yss
+each_after_both t [] yss = refl
+each_after_both t (ts ∷ xss) yss = ap (λ z. t ∷ (ts ++ z)) (each_after_both t xss yss)
+    ∙ ap (λ z. t ∷ z) (sym (append_assoc ts (each_after t xss) (each_after t yss)))
 
 pub members_both : {A : Type 0} (f : Bool) (t : A) (xss yss : List (List A))
     → members f t (xss ++ yss) ≡ members f t xss ++ members (f && is_nil xss) t yss
 members_both true t [] yss = refl
 members_both false t [] yss = refl
 members_both true t (ts ∷ xss) yss =
-    separated_on t ts (xss ++ yss) ∙ ap (λ z. ts ++ z) (following_both t xss yss)
-    ∙ sym (append_assoc ts (following t xss) (following t yss))
-    ∙ ap (λ z. z ++ following t yss) (sym (separated_on t ts xss))
-members_both false t (ts ∷ xss) yss = following_both t (ts ∷ xss) yss
+    separated_on t ts (xss ++ yss) ∙ ap (λ z. ts ++ z) (each_after_both t xss yss)
+    ∙ sym (append_assoc ts (each_after t xss) (each_after t yss))
+    ∙ ap (λ z. z ++ each_after t yss) (sym (separated_on t ts xss))
+members_both false t (ts ∷ xss) yss = each_after_both t (ts ∷ xss) yss
 
 pub members_none : {A : Type 0} (f : Bool) (t : A) → members f t [] ≡ []
 members_none true t = refl
@@ -86,7 +86,7 @@ module _ {S X : Type 0} (after : S → Sited → S) (base o : S) where
     all_items nil xs i h so_far =
         sym (ap (λ z. puts after o (members f t z)) (ap F (drop_all i xs h) ∙ nil) ∙ ap (puts after o) (members_none f t)) ∙ so_far
 
-  -- a list whose items stand one behind another
+  -- a list whose items stand one after another
   module _ (F : List X → List Sited) where
     pub part_on : (g : X → List Sited) → ((x : X) (xs : List X) → F (x ∷ xs) ≡ g x ++ F xs) → (xs : List X) (i : ℕ) (x : X) (o1 : S) →
         i < length xs → x ≡ get_or xs i x → puts after o (F (drop i xs)) ≡ base → o1 ≡ puts after o (g x) →

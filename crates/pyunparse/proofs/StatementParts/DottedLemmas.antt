@@ -18,7 +18,7 @@ use Rattle.pytree_fits.proofs.Callers.Names.{chars_around, sides}
 
 -- ---- The names of a text.
 
--- up to its first point, and behind it
+-- up to its first point, and after it
 names_around : (x y : Identifier) → NonePass (λ c. c == 46) x → names_in (x ++ (46 ∷ y)) ≡ x ∷ names_in y
 names_around [] y h = refl
 names_around (c ∷ cs) y h = rw (h.0, names_around cs y h.1) refl
@@ -28,10 +28,10 @@ one_name : (x : Identifier) → NonePass (λ c. c == 46) x → names_in x ≡ x 
 one_name [] h = refl
 one_name (c ∷ cs) h = rw (h.0, one_name cs h.1) refl
 
--- behind a first one
-behind_point : (y : Identifier) → dotted_rest piece (names_in y) ≡ tight piece Dot ∷ dotted piece false y
-behind_point [] = refl
-behind_point (c ∷ cs) = by (c == 46) (names_in cs)
+-- after a first one
+following_point : (y : Identifier) → dotted_rest piece (names_in y) ≡ tight piece Dot ∷ dotted piece false y
+following_point [] = refl
+following_point (c ∷ cs) = by (c == 46) (names_in cs)
   where
     by : (b : Bool) (xs : List Identifier) →
         dotted_rest piece (if b then [] ∷ xs else lengthen c xs) ≡ tight piece Dot ∷ dotted_names piece false
@@ -55,7 +55,7 @@ around_point close text part tail u e h =
     ap (λ z. dotted piece close (chars z)) e
     ∙ ap (λ z. dotted piece close z) (chars_around part tail v)
     ∙ ap (dotted_names piece close) (names_around (chars part) (chars tail) (pointless part v h))
-    ∙ ap (λ z. sited (in_form (chars part)) close false ∷ z) (behind_point (chars tail))
+    ∙ ap (λ z. sited (in_form (chars part)) close false ∷ z) (following_point (chars tail))
 
 -- a text that is split at its first point, or has none
 pub at_point : (close : Bool) (text : List ℕ) (r : Option (Bor (List ℕ) × Bor (List ℕ))) → IsUtf8 text → IsSplitOnceResult 46 text r →
@@ -71,7 +71,7 @@ at_point close text (Some x) u h =
 -- ---- They are written.
 
 module _ {S : Type 0} (after : S → Sited → S) (base o : S) (close : Bool) (text : List ℕ) where
-  -- a name and the point behind it
+  -- a name and the point after it
   pub name_on : (part tail : List ℕ) (o1 o2 : S) →
       dotted piece close (chars text) ≡ sited (in_form (chars part)) close false ∷ (tight piece Dot ∷ dotted piece false (chars tail)) →
       puts after o (dotted piece close (chars text)) ≡ base →

@@ -1,5 +1,5 @@
 -- Carries: write_bases, write_function_header, write_match_header, write_case_header. The bases and
--- keywords of a class, what stands behind the name of a function, and the headers of a `match`.
+-- keywords of a class, what stands after the name of a function, and the headers of a `match`.
 use Rattle.std.proofs.Common.{◌≡◌, ◌∙◌, ◌==◌, Bool, true, false, ◌&&◌, List, [], ◌∷◌, ◌++◌, length, map, Option, refl, ap, sym}
 use Rattle.std.proofs.lemmas.Bool.{false≢true}
 use Rattle.std.specs.Str.{chars}
@@ -16,7 +16,7 @@ use Rattle.pygrammar.specs.declared.pattern_levels.PatternLevel.TheVariants.{Pat
 use Rattle.pygrammar.specs.Forms.{case_name, match_name}
 use Rattle.pygrammar.specs.Lines.{case_header, match_header}
 use Rattle.pyunparse_text.specs.Pieces.{Sited, piece, pieces, sited}
-use Rattle.pyunparse_text.specs.Statements.{bases, behind, header_tokens}
+use Rattle.pyunparse_text.specs.Statements.{bases, following, header_tokens}
 use Rattle.pyunparse_text.specs.Written.{by_name, each, enclosed, free, listed, tight, trailing, word}
 use Rattle.pyunparse_text.specs.WrittenPatterns.{written_pattern}
 use Rattle.pyunparse_text.specs.Folds.{puts}
@@ -27,7 +27,7 @@ use Rattle.pyunparse.proofs.Sequences.FoldLemmas.{three, two}
 use Rattle.pyunparse.proofs.Sequences.MemberLemmas.{members_both}
 use Rattle.pyunparse.proofs.ExpressionParts.ArgumentLemmas.{none_each}
 
--- bases, and keywords behind them
+-- bases, and keywords after them
 pub bases_listed : {S : Type 0} (after : S → Sited → S) (s s1 : S) (es : List given.Expr) (ks : Keywords) (b : Bool) →
     b ≡ (length es == 0) → s1 ≡ puts after s (members true (trailing piece Comma) (each piece Named (exprs (map tree_of es)))) →
     puts after s1 (members b (trailing piece Comma) (by_name piece ks)) ≡ puts after s
@@ -79,9 +79,9 @@ module _ {S : Type 0} (after : S → Sited → S) (s : S) where
 
   pub case_on : (p : plain.Pattern) (g : Option plain.Expr) (s1 s2 s3 : S)
       → s1 ≡ puts after s (sited (in_form (chars (99 ∷ 97 ∷ 115 ∷ 101 ∷ []))) false false ∷ []) →
-      s2 ≡ puts after s1 (written_pattern piece Patterns p) → s3 ≡ puts after s2 (behind piece (word piece Key.If) Named g) →
+      s2 ≡ puts after s1 (written_pattern piece Patterns p) → s3 ≡ puts after s2 (following piece (word piece Key.If) Named g) →
       puts after s3 (trailing piece Colon ∷ []) ≡ puts after s (with_colon (case_header p g))
   case_on p g s1 s2 s3 e1 e2 e3 =
       two after s (header_tokens piece (case_header p g)) (trailing piece Colon ∷ []) s3
       (e3 ∙ three after s (free piece (in_form case_name) ∷ []) (written_pattern piece Patterns p)
-      (behind piece (word piece Key.If) Named g) s1 s2 (e1 ∙ ap (λ z. puts after s (free piece (in_form z) ∷ [])) case_text) e2)
+      (following piece (word piece Key.If) Named g) s1 s2 (e1 ∙ ap (λ z. puts after s (free piece (in_form z) ∷ [])) case_text) e2)

@@ -23,7 +23,7 @@ use Rattle.pygrammar.specs.declared.levels.Level.TheVariants as Level
 use Rattle.pygrammar.specs.Forms.{type_name}
 use Rattle.pytoken.specs.Terminals.{in_form, Op}
 use Rattle.pyunparse_text.specs.Pieces.{Sited, piece, pieces, sited}
-use Rattle.pyunparse_text.specs.Statements.{annotated, annotated_in_brackets, augmented_sign, behind, dotted_alias, one_name}
+use Rattle.pyunparse_text.specs.Statements.{annotated, annotated_in_brackets, augmented_sign, following, dotted_alias, one_name}
 use Rattle.pyunparse_text.specs.Statements.{perhaps_written, simple_tokens, targets, type_params}
 use Rattle.pyunparse_text.specs.Written.{each, free, listed, trailing, word, written}
 use Rattle.pyunparse_text.specs.Folds.{closed, opened, puts}
@@ -45,15 +45,15 @@ annotated_parts t simple = append-nil (pieces Level.Primary t)
 module _ {S : Type 0} (after : S → Sited → S) (s : S) where
   pub raise_on : (e c : Option plain.Expr) (s1 s2 : S) → s1 ≡ puts after s (word piece Key.Raise ∷ [])
       → s2 ≡ puts after s1 (perhaps_written piece Level.Expression e) →
-      puts after s2 (behind piece (word piece Key.From) Level.Expression c) ≡ puts after s (simple_tokens piece (plain.Raise e c))
+      puts after s2 (following piece (word piece Key.From) Level.Expression c) ≡ puts after s (simple_tokens piece (plain.Raise e c))
   raise_on e c s1 s2 e1 e2 = three after s (word piece Key.Raise ∷ []) (perhaps_written piece Level.Expression e)
-      (behind piece (word piece Key.From) Level.Expression c) s1 s2 e1 e2
+      (following piece (word piece Key.From) Level.Expression c) s1 s2 e1 e2
 
   pub assert_on : (e : plain.Expr) (m : Option plain.Expr) (s1 s2 : S) → s1 ≡ puts after s (word piece Key.Assert ∷ [])
       → s2 ≡ puts after s1 (pieces Level.Expression e) →
-      puts after s2 (behind piece (trailing piece Comma) Level.Expression m) ≡ puts after s (simple_tokens piece (plain.Assert e m))
+      puts after s2 (following piece (trailing piece Comma) Level.Expression m) ≡ puts after s (simple_tokens piece (plain.Assert e m))
   assert_on e m s1 s2 e1 e2 = three after s (word piece Key.Assert ∷ []) (pieces Level.Expression e)
-      (behind piece (trailing piece Comma) Level.Expression m) s1 s2 e1 e2
+      (following piece (trailing piece Comma) Level.Expression m) s1 s2 e1 e2
 
   -- the target of an annotation, in its brackets or without
   pub annotated_on : (t : plain.Expr) (simple r : Bool) (s1 s2 : S) → r ≡ annotated_in_brackets t simple →
@@ -95,10 +95,10 @@ module _ {S : Type 0} (after : S → Sited → S) (s : S) where
         → r ≡ statement.AnnAssign t a v simple → u ≡ t.value → b ≡ a.value →
         s1 ≡ puts after s (annotated piece (tree_of u) simple) → s2 ≡ puts after s1 (trailing piece Colon ∷ [])
         → s3 ≡ puts after s2 (pieces Level.Expression (tree_of b)) →
-        puts after s3 (behind piece (free piece (Op Equal)) Level.Value (boxed_of v)) ≡ puts after s (simple_tokens piece (stmt_of r))
+        puts after s3 (following piece (free piece (Op Equal)) Level.Value (boxed_of v)) ≡ puts after s (simple_tokens piece (stmt_of r))
     annotation_on {t} {a} {v} {simple} {u} {b} {s1} {s2} {s3} is same_target same_annotation e1 e2 e3 =
         four after s (annotated piece (tree_of u) simple) (trailing piece Colon ∷ []) (pieces Level.Expression (tree_of b))
-        (behind piece (free piece (Op Equal)) Level.Value (boxed_of v)) s1 s2 s3 e1 e2 e3
+        (following piece (free piece (Op Equal)) Level.Value (boxed_of v)) s1 s2 s3 e1 e2 e3
         ∙ (λ i. puts after s
         (simple_tokens piece (plain.AnnAssign (tree_of (same_target i)) (tree_of (same_annotation i)) (boxed_of v) simple)))
         ∙ same (plain.AnnAssign (tree_of t.value) (tree_of a.value) (boxed_of v) simple) (ap stmt_of is ∙ ann_assign_tree t a v simple)

@@ -10,7 +10,7 @@ use Rattle.pytree_node.specs.TreeOf.{option_of, type_param_of}
 use Rattle.pygrammar.specs.declared.levels.Level.TheVariants.{Expression}
 use Rattle.pytoken.specs.Terminals.{in_form}
 use Rattle.pyunparse_text.specs.Pieces.{Sited, piece}
-use Rattle.pyunparse_text.specs.Statements.{behind, type_param, type_params}
+use Rattle.pyunparse_text.specs.Statements.{following, type_param, type_params}
 use Rattle.pyunparse_text.specs.Written.{free, leading, listed, tight, trailing}
 use Rattle.pyunparse_text.specs.Folds.{puts}
 use Rattle.pyunparse_text.proofs.Callers.Writing.{not_zero}
@@ -20,9 +20,9 @@ module _ {S : Type 0} (after : S → Sited → S) (s : S) where
   module _ (p : TypeParam) where
     pub variable_on : (x : Identifier) (bound : Option Expr) (s1 : S) → p ≡ parameter.TypeVar x bound
         → s1 ≡ puts after s (free piece (in_form x) ∷ []) →
-        puts after s1 (behind piece (trailing piece Colon) Expression (option_of bound)) ≡ puts after s (type_param piece (type_param_of p))
+        puts after s1 (following piece (trailing piece Colon) Expression (option_of bound)) ≡ puts after s (type_param piece (type_param_of p))
     variable_on x bound s1 is e1 =
-        two after s (free piece (in_form x) ∷ []) (behind piece (trailing piece Colon) Expression (option_of bound)) s1 e1
+        two after s (free piece (in_form x) ∷ []) (following piece (trailing piece Colon) Expression (option_of bound)) s1 e1
         ∙ ap (λ z. puts after s (type_param piece (type_param_of z))) (sym is)
 
     pub tuple_on : (x : Identifier) (s1 : S) → p ≡ parameter.TypeVarTuple x → s1 ≡ puts after s (leading piece Star ∷ []) →

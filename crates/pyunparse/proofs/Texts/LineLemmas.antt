@@ -17,7 +17,7 @@ use Rattle.pyunparse_text.specs.Modules.{statement_lines, written_line}
 use Rattle.pyunparse_text.specs.Pieces.{Sited, outside, piece}
 use Rattle.pyunparse_text.specs.Folds.{puts}
 use Rattle.pyunparse.specs.Inner.Lines.{Blocked, Wrote, def_lines, in_utf8, with_colon}
-use Rattle.pyunparse_text.specs.Writing.{Writing, behind_sited}
+use Rattle.pyunparse_text.specs.Writing.{Writing, after_sited}
 use Rattle.pyunparse_text.proofs.Callers.Writing.{both, level_kept, line_written, not_zero, one}
 
 blanks_kept : (n : ℕ) → encode_utf8_all (replicate n 32) ≡ replicate n 32
@@ -68,15 +68,15 @@ indented w = record { text = w.text; last = w.last; level = w.level + 1; in_fiel
 abbrev pub dedented : Writing → Writing
 dedented w = record { text = w.text; last = w.last; level = w.level - 1; in_field = w.in_field }
 
-front_text : (u v w : Writing) (ps : List Sited) → v ≡ begun u → w ≡ puts behind_sited v ps
+front_text : (u v w : Writing) (ps : List Sited) → v ≡ begun u → w ≡ puts after_sited v ps
     → w.text ≡ u.text ++ (replicate (4 * u.level) 32 ++ token_bytes ps)
 front_text u v w ps e f =
-    ap (λ z. z.text) (f ∙ ap (λ z. puts behind_sited z ps) e)
+    ap (λ z. z.text) (f ∙ ap (λ z. puts after_sited z ps) e)
     ∙ line_written (begun u) ps refl
     ∙ append_assoc u.text (replicate (4 * u.level) 32) (token_bytes ps)
 
-front_level : (u v w : Writing) (ps : List Sited) → v ≡ begun u → w ≡ puts behind_sited v ps → w.level ≡ u.level
-front_level u v w ps e f = ap (λ z. z.level) (f ∙ ap (λ z. puts behind_sited z ps) e) ∙ level_kept (begun u) ps
+front_level : (u v w : Writing) (ps : List Sited) → v ≡ begun u → w ≡ puts after_sited v ps → w.level ≡ u.level
+front_level u v w ps e f = ap (λ z. z.level) (f ∙ ap (λ z. puts after_sited z ps) e) ∙ level_kept (begun u) ps
 
 joined : (u : Writing) (ps : List Sited) (ls : List (WrittenLine Sited)) →
     (u.text ++ (replicate (4 * u.level) 32 ++ token_bytes ps)) ++ 10 ∷ in_utf8 ls ≡ u.text ++ in_utf8 (written_line u.level ps ∷ ls)
@@ -85,7 +85,7 @@ joined u ps ls =
     ∙ ap (λ z. u.text ++ z) (append_assoc (replicate (4 * u.level) 32) (token_bytes ps) (10 ∷ in_utf8 ls) ∙ sym (first_line u.level ps ls))
 
 -- a line of tokens alone
-pub whole_line : (u v w x : Writing) (ps : List Sited) → v ≡ begun u → w ≡ puts behind_sited v ps → x ≡ ended w
+pub whole_line : (u v w x : Writing) (ps : List Sited) → v ≡ begun u → w ≡ puts after_sited v ps → x ≡ ended w
     → Wrote u x (written_line u.level ps ∷ [])
 whole_line u v w x ps e f g = record {
   text = ap (λ z. z.text) g ∙ ap (λ z. z ++ 10 ∷ []) (front_text u v w ps e f) ∙ joined u ps [];
@@ -94,7 +94,7 @@ whole_line u v w x ps e f g = record {
 
 -- a header and its block, whose lines are told by the level
 pub header_block : (u v w x : Writing) (h : Header) (F : ℕ → List (WrittenLine Sited)) → v ≡ begun u
-    → w ≡ puts behind_sited v (with_colon h) →
+    → w ≡ puts after_sited v (with_colon h) →
     Blocked w x (F w.level) → Wrote u x (header piece u.level h ∷ F u.level)
 header_block u v w x h F e f b =
     let same : w.level ≡ u.level = front_level u v w (with_colon h) e f in
@@ -104,7 +104,7 @@ header_block u v w x h F e f b =
       level = b.level ∙ same;
     }
 
--- lines behind lines
+-- lines after lines
 pub wrote_none : (u : Writing) → Wrote u u []
 wrote_none u = record { text = sym (append-nil u.text); level = refl }
 

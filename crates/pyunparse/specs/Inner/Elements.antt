@@ -7,7 +7,7 @@ use Rattle.pygrammar.specs.declared.levels.Level.TheVariants.{Elem, Part}
 use Rattle.pyunparse_text.specs.Written.{lone_star, trailing}
 use Rattle.pyunparse_text.specs.Pieces.{Sited, piece}
 
--- the comma behind an element that stands alone
+-- the comma after an element that stands alone
 abbrev pub last : Bool → List Sited
 last true = trailing piece Comma ∷ []
 last false = []
@@ -21,7 +21,7 @@ abbrev pub are_bare : Exprs → Level → Bool
 are_bare no_exprs k = false
 are_bare (an_expr e es) k = not (is_elem k)
 
--- one stands alone with a comma behind it
+-- one stands alone with a comma after it
 abbrev pub is_part : Level → Bool
 is_part Part = true
 is_part _ = false

@@ -22,7 +22,7 @@ with_colon h = header_tokens piece h ++ (trailing piece Colon ∷ [])
 abbrev pub in_utf8 : List (WrittenLine Sited) → List ℕ
 in_utf8 ls = encode_utf8_all (lines_text (map line_of ls))
 
--- lines are written behind a text
+-- lines are written after a text
 pub record Wrote (v w : Writing) (ls : List (WrittenLine Sited)) : Type 0 where
   pub text : w.text ≡ v.text ++ in_utf8 ls
   pub level : w.level ≡ v.level
@@ -32,7 +32,7 @@ pub record Blocked (v w : Writing) (ls : List (WrittenLine Sited)) : Type 0 wher
   pub text : w.text ≡ v.text ++ 10 ∷ in_utf8 ls
   pub level : w.level ≡ v.level
 
--- those of a `for`, a `with`, a `def` or `class` behind its decorators, a `try`, one of its handlers, and a case of a `match`
+-- those of a `for`, a `with`, a `def` or `class` after its decorators, a `try`, one of its handlers, and a case of a `match`
 abbrev pub for_lines : ℕ → Bool → Expr → Expr → Stmts → Stmts → List (WrittenLine Sited)
 for_lines l b t e body orelse =
     header piece l (loop_header (for_head b t e)) ∷ (lines_of piece (suc l) body ++ clause piece l else_header orelse)

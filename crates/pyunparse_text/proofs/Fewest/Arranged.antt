@@ -14,7 +14,7 @@ use Rattle.pygrammar.specs.Entries.{Parameter, Entry, Plain, Slashed, Bare, Gath
 use Rattle.pygrammar.specs.Parameters.{with_kwarg, add_keyword_only, set_vararg, add_plain, add_before_slash, after_star, at_star}
 use Rattle.pygrammar.specs.Parameters.{plain_ones}
 use Rattle.pygrammar.specs.Parameters.{before_slash, has_slash, arranged}
-use Rattle.pyunparse_text.specs.Written.{Maker, free, leading, trailing, tight, beside, behind_equal, with_defaults, with_slash, with_star}
+use Rattle.pyunparse_text.specs.Written.{Maker, free, leading, trailing, tight, beside, after_equal, with_defaults, with_slash, with_star}
 use Rattle.pyunparse_text.specs.Written.{written}
 use Rattle.pyunparse_text.specs.Written.{each, suffixed, parameters, names, gathered, defaults}
 use Rattle.pyunparse_text.proofs.Fewest.Claims.{given}
@@ -26,10 +26,10 @@ module _ {A : Type 0} (make : Maker A) where
   entries es = map (entry_in make (Parameter false)) es
 
   abbrev texts : Exprs → List (List A)
-  texts ds = map (behind_equal make) (each make Expression ds)
+  texts ds = map (after_equal make) (each make Expression ds)
 
-  abbrev behind : OptionalArg → Args → OptionalExprs → OptionalArg → List (List A)
-  behind v ks kds k =
+  abbrev following : OptionalArg → Args → OptionalExprs → OptionalArg → List (List A)
+  following v ks kds k =
       with_star make (gathered make Star v) (names make ks) ++ (beside (names make ks) (defaults make kds) ++ gathered make DoubleStar k)
 
   -- after a star
@@ -58,7 +58,7 @@ module _ {A : Type 0} (make : Maker A) where
 
   -- from the star on
   data AtStar : Arguments → List Entry → Type 0 where
-    at : {v : OptionalArg} {ks : Args} {kds : OptionalExprs} {k : OptionalArg} {es : List Entry} → behind v ks kds k ≡ entries es
+    at : {v : OptionalArg} {ks : Args} {kds : OptionalExprs} {k : OptionalArg} {es : List Entry} → following v ks kds k ≡ entries es
         → AtStar (arguments no_arg no_arg v ks kds k no_exprs) es
 
   at_gathered : {x : Arguments} {es : List Entry} (a : Arg) → AfterStar x es → AtStar (set_vararg a x) (Gathered a ∷ es)
@@ -107,14 +107,14 @@ module _ {A : Type 0} (make : Maker A) where
 
   data Plains (b : Bool) : Arguments → List Entry → Type 0 where
     plains : {qs : Args} {v : OptionalArg} {ks : Args} {kds : OptionalExprs} {k : OptionalArg} {ds : Exprs} {es : List Entry}
-        → with_defaults (names make qs) (texts ds) ++ behind v ks kds k ≡ entries es → Full b (length (texts ds)) (length (names make qs))
+        → with_defaults (names make qs) (texts ds) ++ following v ks kds k ≡ entries es → Full b (length (texts ds)) (length (names make qs))
         → Plains b (arguments no_arg qs v ks kds k ds) es
 
   plains_none : {x : Arguments} {es : List Entry} (a : Arg) → Plains false x es → Plains false (add_plain a absent x) (Plain a absent ∷ es)
   unfolding names suffixed
   plains_none (arg n t) (plains {qs = qs} {v = v} {ks = ks} {kds = kds} {k = k} {ds = ds} q s) =
       plains
-      (ap (λ z. z ++ behind v ks kds k) (default_none (free make (in_form n) ∷ suffixed make (trailing make Colon) t) (names make qs)
+      (ap (λ z. z ++ following v ks kds k) (default_none (free make (in_form n) ∷ suffixed make (trailing make Colon) t) (names make qs)
       (texts ds) s) ∙ ap (λ z. (free make (in_form n) ∷ (suffixed make (trailing make Colon) t ++ [])) ∷ z) q)
       (omega (arith, s))
 
@@ -123,7 +123,7 @@ module _ {A : Type 0} (make : Maker A) where
   unfolding names suffixed each
   plains_some b (arg n t) d (plains {qs = qs} {v = v} {ks = ks} {kds = kds} {k = k} {ds = ds} q s) =
       plains
-      (ap (λ z. z ++ behind v ks kds k) (default_some (free make (in_form n) ∷ suffixed make (trailing make Colon) t)
+      (ap (λ z. z ++ following v ks kds k) (default_some (free make (in_form n) ∷ suffixed make (trailing make Colon) t)
       (tight make Equal ∷ written make Expression d) (names make qs) (texts ds) s)
       ∙ ap (λ z. (free make (in_form n) ∷ (suffixed make (trailing make Colon) t ++ (tight make Equal ∷ written make Expression d))) ∷
       z) q)
@@ -150,7 +150,7 @@ module _ {A : Type 0} (make : Maker A) where
   data Slashes (b : Bool) : Arguments → List Entry → Type 0 where
     slashes : {a : Arg} {ps qs : Args} {v : OptionalArg} {ks : Args} {kds : OptionalExprs} {k : OptionalArg} {ds : Exprs} {es : List Entry}
         → with_slash make (names make (an_arg a ps)) (with_defaults (names make (an_arg a ps) ++ names make qs) (texts ds)) ++
-        behind v ks kds k ≡ entries es
+        following v ks kds k ≡ entries es
         → Full b (length (texts ds)) (length (names make (an_arg a ps) ++ names make qs))
         → Slashes b (arguments (an_arg a ps) qs v ks kds k ds) es
 
@@ -159,7 +159,7 @@ module _ {A : Type 0} (make : Maker A) where
   unfolding names suffixed
   slash_none (arg n t) (plains {qs = qs} {v = v} {ks = ks} {kds = kds} {k = k} {ds = ds} q s) =
       slashes
-      (ap (λ z. with_slash make ((free make (in_form n) ∷ suffixed make (trailing make Colon) t) ∷ []) z ++ behind v ks kds k)
+      (ap (λ z. with_slash make ((free make (in_form n) ∷ suffixed make (trailing make Colon) t) ∷ []) z ++ following v ks kds k)
       (default_none (free make (in_form n) ∷ suffixed make (trailing make Colon) t) (names make qs) (texts ds) s)
       ∙ ap (λ z. (free make (in_form n) ∷ (suffixed make (trailing make Colon) t ++ [])) ∷ ((free make (Op Slash) ∷ []) ∷ z)) q)
       (omega (arith, s))
@@ -169,7 +169,7 @@ module _ {A : Type 0} (make : Maker A) where
   unfolding names suffixed each
   slash_some b (arg n t) d (plains {qs = qs} {v = v} {ks = ks} {kds = kds} {k = k} {ds = ds} q s) =
       slashes
-      (ap (λ z. with_slash make ((free make (in_form n) ∷ suffixed make (trailing make Colon) t) ∷ []) z ++ behind v ks kds k)
+      (ap (λ z. with_slash make ((free make (in_form n) ∷ suffixed make (trailing make Colon) t) ∷ []) z ++ following v ks kds k)
       (default_some (free make (in_form n) ∷ suffixed make (trailing make Colon) t) (tight make Equal ∷ written make Expression d)
       (names make qs) (texts ds) s)
       ∙ ap (λ z. (free make (in_form n) ∷ (suffixed make (trailing make Colon) t ++ (tight make Equal ∷ written make Expression d))) ∷
@@ -186,7 +186,7 @@ module _ {A : Type 0} (make : Maker A) where
   slashes_none (arg n t) (slashes {a = arg m u} {ps = ps} {qs = qs} {v = v} {ks = ks} {kds = kds} {k = k} {ds = ds} q s) =
       slashes
       (ap (λ z. with_slash make ((free make (in_form n) ∷ suffixed make (trailing make Colon) t) ∷
-      ((free make (in_form m) ∷ suffixed make (trailing make Colon) u) ∷ names make ps)) z ++ behind v ks kds k)
+      ((free make (in_form m) ∷ suffixed make (trailing make Colon) u) ∷ names make ps)) z ++ following v ks kds k)
       (default_none (free make (in_form n) ∷ suffixed make (trailing make Colon) t)
       ((free make (in_form m) ∷ suffixed make (trailing make Colon) u) ∷ (names make ps ++ names make qs)) (texts ds) s)
       ∙ ap (λ z. (free make (in_form n) ∷ (suffixed make (trailing make Colon) t ++ [])) ∷ z) q)
@@ -198,7 +198,7 @@ module _ {A : Type 0} (make : Maker A) where
   slashes_some b (arg n t) d (slashes {a = arg m u} {ps = ps} {qs = qs} {v = v} {ks = ks} {kds = kds} {k = k} {ds = ds} q s) =
       slashes
       (ap (λ z. with_slash make ((free make (in_form n) ∷ suffixed make (trailing make Colon) t) ∷
-      ((free make (in_form m) ∷ suffixed make (trailing make Colon) u) ∷ names make ps)) z ++ behind v ks kds k)
+      ((free make (in_form m) ∷ suffixed make (trailing make Colon) u) ∷ names make ps)) z ++ following v ks kds k)
       (default_some (free make (in_form n) ∷ suffixed make (trailing make Colon) t) (tight make Equal ∷ written make Expression d)
       ((free make (in_form m) ∷ suffixed make (trailing make Colon) u) ∷ (names make ps ++ names make qs)) (texts ds) s)
       ∙ ap (λ z. (free make (in_form n) ∷ (suffixed make (trailing make Colon) t ++ (tight make Equal ∷ written make Expression d))) ∷

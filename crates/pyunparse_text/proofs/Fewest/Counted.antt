@@ -8,12 +8,12 @@ use Rattle.pylex_lexeme.specs.declared.kinds.Exact.{Exact}
 use Rattle.pyfstring.specs.declared.parts.Conversion.{Conversion}
 use Rattle.pytoken.specs.Terminals.{Terminal, Op, FormattedBegin, FormattedEnd, FieldBegin, FieldEnd}
 use Rattle.pyunparse_text.specs.Written.{Maker}
-use Rattle.pygrammar.specs.OpenStrings.{Open, open_behind, tokens_behind, token_count}
+use Rattle.pygrammar.specs.OpenStrings.{Open, open_following, tokens_after, token_count}
 
 -- so many tokens, outside of f-strings; none in one
 pub record Counted (k : ℕ) (ts : List Terminal) : Type 0 where
-  pub outside : (us : List Terminal) → tokens_behind [] (ts ++ us) ≡ k + tokens_behind [] us
-  pub inside : (n : ℕ) (o : Open) (us : List Terminal) → tokens_behind (n ∷ o) (ts ++ us) ≡ tokens_behind (n ∷ o) us
+  pub outside : (us : List Terminal) → tokens_after [] (ts ++ us) ≡ k + tokens_after [] us
+  pub inside : (n : ℕ) (o : Open) (us : List Terminal) → tokens_after (n ∷ o) (ts ++ us) ≡ tokens_after (n ∷ o) us
 
 -- a terminal that opens nothing and closes nothing
 abbrev pub is_plain : Terminal → Bool
@@ -23,7 +23,7 @@ is_plain (FieldBegin c) = false
 is_plain FieldEnd = false
 is_plain _ = true
 
-kept_open : (o : Open) (t : Terminal) → is_plain t ≡ true → open_behind o t ≡ o
+kept_open : (o : Open) (t : Terminal) → is_plain t ≡ true → open_following o t ≡ o
 kept_open [] FormattedBegin h = absurd (cc)
 kept_open [] _ h = refl
 kept_open (n ∷ o) FormattedBegin h = absurd (cc)
@@ -37,8 +37,8 @@ counted_none = record { outside = λ us. omega arith; inside = λ n o us. refl }
 
 pub counted_token : {k : ℕ} {t : Terminal} {ts : List Terminal} → is_plain t ≡ true → Counted k ts → Counted (suc k) (t ∷ ts)
 counted_token {k} {t} {ts} p c = record {
-  outside = λ us. ap suc (ap (λ o. tokens_behind o (ts ++ us)) (kept_open [] t p) ∙ c.outside us) ∙ omega arith;
-  inside = λ n o us. ap (λ x. tokens_behind x (ts ++ us)) (kept_open (n ∷ o) t p) ∙ c.inside n o us;
+  outside = λ us. ap suc (ap (λ o. tokens_after o (ts ++ us)) (kept_open [] t p) ∙ c.outside us) ∙ omega arith;
+  inside = λ n o us. ap (λ x. tokens_after x (ts ++ us)) (kept_open (n ∷ o) t p) ∙ c.inside n o us;
 }
 
 pub counted_both : {m n : ℕ} {ts us : List Terminal} → Counted m ts → Counted n us → Counted (m + n) (ts ++ us)
@@ -48,7 +48,7 @@ counted_both {m} {n} {ts} {us} c d = record {
 }
 
 pub count_is : {k : ℕ} {ts : List Terminal} → Counted k ts → token_count ts ≡ k
-count_is {k} {ts} c = ap (tokens_behind []) (sym_nil ts) ∙ (c.outside [] ∙ omega arith)
+count_is {k} {ts} c = ap (tokens_after []) (sym_nil ts) ∙ (c.outside [] ∙ omega arith)
   where
     sym_nil : (ts : List Terminal) → ts ≡ ts ++ []
     sym_nil [] = refl
@@ -57,7 +57,7 @@ count_is {k} {ts} c = ap (tokens_behind []) (sym_nil ts) ∙ (c.outside [] ∙ o
 -- ---- What stands in f-strings.
 
 pub record Silent (ts : List Terminal) : Type 0 where
-  pub is : (n : ℕ) (o : Open) (us : List Terminal) → tokens_behind (n ∷ o) (ts ++ us) ≡ tokens_behind (n ∷ o) us
+  pub is : (n : ℕ) (o : Open) (us : List Terminal) → tokens_after (n ∷ o) (ts ++ us) ≡ tokens_after (n ∷ o) us
 
 pub silent : {k : ℕ} {ts : List Terminal} → Counted k ts → Silent ts
 silent c = record { is = c.inside }
@@ -66,7 +66,7 @@ pub silent_none : Silent []
 silent_none = record { is = λ n o us. refl }
 
 pub silent_token : {t : Terminal} {ts : List Terminal} → is_plain t ≡ true → Silent ts → Silent (t ∷ ts)
-silent_token {t} {ts} p c = record { is = λ n o us. ap (λ x. tokens_behind x (ts ++ us)) (kept_open (n ∷ o) t p) ∙ c.is n o us }
+silent_token {t} {ts} p c = record { is = λ n o us. ap (λ x. tokens_after x (ts ++ us)) (kept_open (n ∷ o) t p) ∙ c.is n o us }
 
 pub silent_both : {ts us : List Terminal} → Silent ts → Silent us → Silent (ts ++ us)
 silent_both {ts} {us} c d = record { is = λ n o vs. rw (append_assoc ts us vs) (c.is n o (us ++ vs) ∙ d.is n o vs) }
@@ -76,11 +76,11 @@ pub silent_field : {c : Conversion} {ts us vs : List Terminal} → Silent ts →
     → Silent (FieldBegin c ∷ (ts ++ (us ++ (FieldEnd ∷ vs))))
 silent_field {c} {ts} {us} {vs} p q r = record { is = λ n o ws. at n o ws }
   where
-    last : (n : ℕ) (o : Open) (ws : List Terminal) → tokens_behind ((suc n - 1) ∷ o) (vs ++ ws) ≡ tokens_behind (n ∷ o) ws
-    last n o ws = let e : suc n - 1 ≡ n = omega arith in ap (λ k. tokens_behind (k ∷ o) (vs ++ ws)) e ∙ r.is n o ws
+    last : (n : ℕ) (o : Open) (ws : List Terminal) → tokens_after ((suc n - 1) ∷ o) (vs ++ ws) ≡ tokens_after (n ∷ o) ws
+    last n o ws = let e : suc n - 1 ≡ n = omega arith in ap (λ k. tokens_after (k ∷ o) (vs ++ ws)) e ∙ r.is n o ws
 
-    at : (n : ℕ) (o : Open) (ws : List Terminal) → tokens_behind (suc n ∷ o) ((ts ++ (us ++ (FieldEnd ∷ vs))) ++ ws) ≡
-        tokens_behind (n ∷ o) ws
+    at : (n : ℕ) (o : Open) (ws : List Terminal) → tokens_after (suc n ∷ o) ((ts ++ (us ++ (FieldEnd ∷ vs))) ++ ws) ≡
+        tokens_after (n ∷ o) ws
     at n o ws =
         rw (append_assoc ts (us ++ (FieldEnd ∷ vs)) ws, append_assoc us (FieldEnd ∷ vs) ws)
         (p.is (suc n) o (us ++ (FieldEnd ∷ (vs ++ ws))) ∙ (q.is (suc n) o (FieldEnd ∷ (vs ++ ws)) ∙ last n o ws))
@@ -97,7 +97,7 @@ counted_string {k} {ts} {us} c d = record {
 
 -- a mark for each token
 abbrev pub one : Maker (Unit {0})
-one = record { token = λ t before behind. tt; formatted = λ es. tt ∷ [] }
+one = record { token = λ t before following. tt; formatted = λ es. tt ∷ [] }
 
 pub record AtLeast (ms : List (Unit {0})) (ts : List Terminal) : Type 0 where
   pub count : ℕ

@@ -36,9 +36,9 @@ use Rattle.pytree_height.specs.Heights.{optional_arg_height, arguments_height}
 use Rattle.pyunparse_text.specs.Levels.{leads, reaches, operator_level, left_level, right_level, operator_sign, unary_level, unary_sign}
 use Rattle.pyunparse_text.specs.Levels.{comparison_signs}
 use Rattle.pyunparse_text.specs.Written.{separated, beside, star_level, some_named, lone_star, element_level, tuple_level, lone_generator}
-use Rattle.pyunparse_text.specs.Written.{constant_terminal, free, bracketed, fit, with_comma, tuple_of, compared, for_in, behind_equal}
+use Rattle.pyunparse_text.specs.Written.{constant_terminal, free, bracketed, fit, with_comma, tuple_of, compared, for_in, after_equal}
 use Rattle.pyunparse_text.specs.Written.{with_slash}
-use Rattle.pyunparse_text.specs.Written.{with_star, Element, is_unicode, first_text, joined, field, written, elements_behind, spec_elements}
+use Rattle.pyunparse_text.specs.Written.{with_star, Element, is_unicode, first_text, joined, field, written, elements_after, spec_elements}
 use Rattle.pyunparse_text.specs.Written.{each}
 use Rattle.pyunparse_text.specs.Written.{perhaps, suffixed, alone, by_name, written_keys, pairs, clauses, conditions, parameters, names}
 use Rattle.pyunparse_text.specs.Written.{gathered}
@@ -165,7 +165,7 @@ star_flat [] none = none
 star_flat {n} (y ∷ ys) none = one (plain (λ d. refl) (flat_none n)) none
 star_flat ys (one f r) = one f r
 
-equal_flat : {n : ℕ} {tss : List (List Terminal)} → AllFlat n tss → AllFlat n (map (behind_equal terminal) tss)
+equal_flat : {n : ℕ} {tss : List (List Terminal)} → AllFlat n tss → AllFlat n (map (after_equal terminal) tss)
 equal_flat none = none
 equal_flat (one f r) = one (plain (λ d. refl) f) (equal_flat r)
 
@@ -309,7 +309,7 @@ value_flat n e c s es f g r h =
     (up g (omega arith))) h) r)
 
 mutual
-  unfolding written elements_behind spec_elements each perhaps suffixed alone by_name written_keys pairs clauses conditions
+  unfolding written elements_after spec_elements each perhaps suffixed alone by_name written_keys pairs clauses conditions
       parameters names gathered defaults
 
   pub flat : (l : Level) → not_atom l ≡ true → (e : Expr) → Flat (height e) (written terminal l e)
@@ -355,7 +355,7 @@ mutual
       string_flat (field terminal c (written terminal Or e) (spec_elements terminal s))
       (field_flat c (written terminal Or e) (spec_elements terminal s) (up (flat Or refl e) (omega arith)) (up (flat_spec s) (omega arith)))
   flat l a (Trees.JoinedStr es) =
-      joined_flat (is_unicode es) (first_text es) (elements_behind terminal false es) (up (flat_behind false es) (omega arith))
+      joined_flat (is_unicode es) (first_text es) (elements_after terminal false es) (up (flat_after false es) (omega arith))
   flat l a (Trees.Tuple es c) =
       tuple_flat (tuple_level l (some_named es)) (lone_star es)
       (flat_each (element_level l (some_named es)) (element_not_atom l (some_named es)) es)
@@ -380,17 +380,17 @@ mutual
       (both (up (flat_perhaps Expression refl x) (omega arith))
       (plain (λ d. refl) (both (up (flat_perhaps Expression refl y) (omega arith)) (up (flat_suffixed Colon (λ d. refl) z) (omega arith)))))
 
-  flat_behind : (b : Bool) (es : Exprs) → Flat (heights es) (inner (elements_behind terminal b es))
-  flat_behind b no_exprs = flat_none 0
-  flat_behind b (an_expr (Trees.FormattedValue e c s) es) =
-      value_flat (heights (an_expr (Trees.FormattedValue e c s) es)) e c s (Element.Text b (first_text es) ∷ elements_behind terminal b es)
+  flat_after : (b : Bool) (es : Exprs) → Flat (heights es) (inner (elements_after terminal b es))
+  flat_after b no_exprs = flat_none 0
+  flat_after b (an_expr (Trees.FormattedValue e c s) es) =
+      value_flat (heights (an_expr (Trees.FormattedValue e c s) es)) e c s (Element.Text b (first_text es) ∷ elements_after terminal b es)
       (flat Or refl e) (flat_spec s)
-      (plain (λ d. refl) (up (flat_behind b es) (omega arith))) (omega arith)
-  flat_behind b (an_expr e es) = up (flat_behind b es) (omega arith)
+      (plain (λ d. refl) (up (flat_after b es) (omega arith))) (omega arith)
+  flat_after b (an_expr e es) = up (flat_after b es) (omega arith)
 
   flat_spec : (s : OptionalExpr) → Flat (optional_height s) (inner (spec_elements terminal s))
   flat_spec absent = flat_none 0
-  flat_spec (present (Trees.JoinedStr es)) = plain (λ d. refl) (plain (λ d. refl) (up (flat_behind true es) (omega arith)))
+  flat_spec (present (Trees.JoinedStr es)) = plain (λ d. refl) (plain (λ d. refl) (up (flat_after true es) (omega arith)))
   flat_spec (present e) = flat_none (height e)
 
   pub flat_each : (l : Level) → not_atom l ≡ true → (es : Exprs) → AllFlat (heights es) (each terminal l es)

@@ -36,7 +36,7 @@ use Rattle.pyunparse_text.specs.Written.{Element, separated, beside, star_level,
 use Rattle.pyunparse_text.specs.Written.{lone_generator}
 use Rattle.pyunparse_text.specs.Written.{constant_terminal, is_unicode, first_text, joined, free, bracketed, fit, with_comma, tuple_of}
 use Rattle.pyunparse_text.specs.Written.{compared}
-use Rattle.pyunparse_text.specs.Written.{for_in, behind_equal, with_slash, with_star, field, written, elements_behind, spec_elements, each}
+use Rattle.pyunparse_text.specs.Written.{for_in, after_equal, with_slash, with_star, field, written, elements_after, spec_elements, each}
 use Rattle.pyunparse_text.specs.Written.{perhaps}
 use Rattle.pyunparse_text.specs.Written.{suffixed, alone, by_name, written_keys, pairs, clauses, conditions, parameters, names, gathered}
 use Rattle.pyunparse_text.specs.Written.{defaults}
@@ -139,7 +139,7 @@ star_same none (more y ys) = more (last refl) none
 star_same (more x xs) r = more x xs
 
 equal_same : {mss : List (List (Unit {0}))} {tss : List (List Terminal)} → AllSame mss tss
-    → AllSame (map (behind_equal one) mss) (map (behind_equal terminal) tss)
+    → AllSame (map (after_equal one) mss) (map (after_equal terminal) tss)
 equal_same none = none
 equal_same (more c r) = more (token refl c) (equal_same r)
 
@@ -213,7 +213,7 @@ inner_field c ts es p q =
     (silent_field {c = c} (silent_token refl (silent_both p (silent_token refl silent_none))) q silent_none)
 
 mutual
-  unfolding written elements_behind spec_elements each perhaps suffixed alone by_name written_keys pairs clauses conditions
+  unfolding written elements_after spec_elements each perhaps suffixed alone by_name written_keys pairs clauses conditions
       parameters names gathered defaults
 
   pub same : (l : Level) (e : Expr) → Same (written one l e) (written terminal l e)
@@ -241,8 +241,8 @@ mutual
       string_same (field terminal c (written terminal Or e) (spec_elements terminal s))
       (inner_field c (written terminal Or e) (spec_elements terminal s) (silent (same Or e).is) (silent_spec s))
   same l (Trees.JoinedStr es) =
-      joined_same (is_unicode es) (first_text es) (elements_behind one false es) (elements_behind terminal false es)
-      (silent_behind false es)
+      joined_same (is_unicode es) (first_text es) (elements_after one false es) (elements_after terminal false es)
+      (silent_after false es)
   same l (Trees.Tuple es c) = tuple_same (tuple_level l (some_named es)) (lone_star es) (same_each (element_level l (some_named es)) es)
   same l (Trees.GeneratorExp e gs) = in_brackets LPar RPar (both (same Named e) (same_clauses gs))
   same l (Trees.ListOf es c) = in_brackets LSqb RSqb (listed_same (same_each Elem es))
@@ -255,18 +255,18 @@ mutual
   same l (Trees.Slice x y z) =
       fit_same l Slice (both (same_perhaps Expression x) (token refl (both (same_perhaps Expression y) (same_suffixed Colon z))))
 
-  pub silent_behind : (b : Bool) (es : Exprs) → Silent (inner (elements_behind terminal b es))
-  silent_behind b no_exprs = silent_none
-  silent_behind b (an_expr (Trees.FormattedValue e c s) es) =
+  pub silent_after : (b : Bool) (es : Exprs) → Silent (inner (elements_after terminal b es))
+  silent_after b no_exprs = silent_none
+  silent_after b (an_expr (Trees.FormattedValue e c s) es) =
       rw
       (flat_map-append element_terminals (field terminal c (written terminal Or e) (spec_elements terminal s))
-      (Element.Text b (first_text es) ∷ elements_behind terminal b es))
+      (Element.Text b (first_text es) ∷ elements_after terminal b es))
       (silent_both (inner_field c (written terminal Or e) (spec_elements terminal s) (silent (same Or e).is) (silent_spec s))
-      (silent_token refl (silent_behind b es)))
-  silent_behind b (an_expr e es) = silent_behind b es
+      (silent_token refl (silent_after b es)))
+  silent_after b (an_expr e es) = silent_after b es
 
   silent_spec : (s : OptionalExpr) → Silent (inner (spec_elements terminal s))
-  silent_spec (present (Trees.JoinedStr es)) = silent_token refl (silent_token refl (silent_behind true es))
+  silent_spec (present (Trees.JoinedStr es)) = silent_token refl (silent_token refl (silent_after true es))
   silent_spec _ = silent_none
 
   pub same_each : (l : Level) (es : Exprs) → AllSame (each one l es) (each terminal l es)
@@ -316,10 +316,10 @@ mutual
   same_parameters (arguments ps qs v ks kds k ds) =
       let firsts : AllSame (names one ps ++ names one qs) (names terminal ps ++ names terminal qs) =
       append_same (same_names ps) (same_names qs) in
-      let values : AllSame (map (behind_equal one) (each one Expression ds)) (map (behind_equal terminal) (each terminal Expression ds)) =
+      let values : AllSame (map (after_equal one) (each one Expression ds)) (map (after_equal terminal) (each terminal Expression ds)) =
       equal_same (same_each Expression ds) in
-      let gap : length (names one ps ++ names one qs) - length (map (behind_equal one) (each one Expression ds)) ≡ length
-      (names terminal ps ++ names terminal qs) - length (map (behind_equal terminal) (each terminal Expression ds)) =
+      let gap : length (names one ps ++ names one qs) - length (map (after_equal one) (each one Expression ds)) ≡ length
+      (names terminal ps ++ names terminal qs) - length (map (after_equal terminal) (each terminal Expression ds)) =
       cc (length_same firsts, length_same values) in
       append_same (slash_same (same_names ps) (beside_same firsts (append_same (replicate_same _ _ gap) values)))
       (append_same (star_same (same_gathered Star v) (same_names ks))

@@ -17,7 +17,7 @@ use Rattle.pygrammar.specs.FormattedStrings as Parts
 use Rattle.pygrammar.specs.FormattedStrings.{StringPart, with_text, merged, values_of, spec_values_of, begins_unicode, has_formatted}
 use Rattle.pygrammar.specs.Grammar as G
 use Rattle.pyunparse_text.specs.Levels.{leads, reaches}
-use Rattle.pyunparse_text.specs.Written.{Element, is_unicode, is_unicode_spec, first_text, field, joined, written, elements_behind}
+use Rattle.pyunparse_text.specs.Written.{Element, is_unicode, is_unicode_spec, first_text, field, joined, written, elements_after}
 use Rattle.pyunparse_text.specs.Written.{spec_elements}
 use Rattle.pyunparse_text.specs.Written as W
 use Rattle.pyunparse_text.specs.Terminals.{terminal, element_terminals}
@@ -114,26 +114,26 @@ field_given {u} {s} {ps} e c es fs r a p q =
     (sym (inner_parts es fs))
     (G.field_part (G.group (climb Named Or named_or (r.all Or a))) p q)
 
--- What follows a text in what they are written in, as the parts that it gives: behind the text they are these again.
-record Behind (u : Bool) (t : List ℕ) (es : List (Element Terminal)) (ps : List StringPart) : Type 0 where
+-- What follows a text in what they are written in, as the parts that it gives: after the text they are these again.
+record Following (u : Bool) (t : List ℕ) (es : List (Element Terminal)) (ps : List StringPart) : Type 0 where
   parts : List StringPart
   given : G.Formatted u (inner es) parts
   merges : with_text t (merged parts) ≡ ps
 
-field_behind : {u : Bool} {s : OptionalExpr} {ps : List StringPart} (b : Bool) (t : List ℕ) (e : Expr) (c : Conversion)
+field_after : {u : Bool} {s : OptionalExpr} {ps : List StringPart} (b : Bool) (t : List ℕ) (e : Expr) (c : Conversion)
     (ss es : List (Element Terminal))
     → Ready e → allowed Or e ≡ true
-    → G.Spec u (inner ss) s → Behind u t es ps
-    → Behind u [] (field terminal c (written terminal Or e) ss ++ (W.Text b t ∷ es)) (Parts.Field (Trees.FormattedValue e c s) ∷ ps)
-field_behind {s = s} b t e c ss es r a q f = record {
+    → G.Spec u (inner ss) s → Following u t es ps
+    → Following u [] (field terminal c (written terminal Or e) ss ++ (W.Text b t ∷ es)) (Parts.Field (Trees.FormattedValue e c s) ∷ ps)
+field_after {s = s} b t e c ss es r a q f = record {
   parts = Parts.Field (Trees.FormattedValue e c s) ∷ (Parts.Text t ∷ f.parts);
   given = field_given e c ss (W.Text b t ∷ es) r a q (G.text_part f.given);
   merges = ap (λ z. Parts.Field (Trees.FormattedValue e c s) ∷ z) f.merges;
 }
 
-text_behind : {u : Bool} {es : List (Element Terminal)} {ps : List StringPart} (c : ℕ) (cs t : List ℕ) → begins_text ps ≡ false → t ≡ []
-    → Behind u t es ps → Behind u (c ∷ cs) es (Parts.Text (c ∷ cs) ∷ ps)
-text_behind {ps = ps} c cs t h none f = record {
+text_following : {u : Bool} {es : List (Element Terminal)} {ps : List StringPart} (c : ℕ) (cs t : List ℕ) → begins_text ps ≡ false → t ≡ []
+    → Following u t es ps → Following u (c ∷ cs) es (Parts.Text (c ∷ cs) ∷ ps)
+text_following {ps = ps} c cs t h none f = record {
   parts = f.parts;
   given = f.given;
   merges = ap (with_text (c ∷ cs)) (ap (λ z. with_text z (merged f.parts)) (sym none) ∙ f.merges) ∙ alone_text c cs ps h;
@@ -145,42 +145,42 @@ no_first_text k (text s) h = absurd (cc)
 no_first_text k (field_of r a q s) h = refl
 
 mutual
-  unfolding written elements_behind spec_elements
+  unfolding written elements_after spec_elements
 
-  parts_behind : {u : Bool} {ps : List StringPart} (b k : Bool) → Stands u ps → Neat ps
-      → Behind u (first_text (values_of k ps)) (elements_behind terminal b (values_of k ps)) ps
-  parts_behind b k no_part n = record { parts = []; given = G.no_part; merges = refl }
-  parts_behind b k (text {ps = ps} s) (neat_text {c = c} {cs = cs} n h) =
-      text_behind c cs (first_text (values_of k ps)) h (no_first_text k s h) (parts_behind b k s n)
-  parts_behind b k (field_of {e = e} {c = c} {s = t} {ps = ps} r a q s) (neat_field n) =
-      field_behind b (first_text (values_of k ps)) e c (spec_elements terminal t)
-      (elements_behind terminal b (values_of k ps)) r a (spec_given q)
-      (parts_behind b k s n)
+  parts_after : {u : Bool} {ps : List StringPart} (b k : Bool) → Stands u ps → Neat ps
+      → Following u (first_text (values_of k ps)) (elements_after terminal b (values_of k ps)) ps
+  parts_after b k no_part n = record { parts = []; given = G.no_part; merges = refl }
+  parts_after b k (text {ps = ps} s) (neat_text {c = c} {cs = cs} n h) =
+      text_following c cs (first_text (values_of k ps)) h (no_first_text k s h) (parts_after b k s n)
+  parts_after b k (field_of {e = e} {c = c} {s = t} {ps = ps} r a q s) (neat_field n) =
+      field_after b (first_text (values_of k ps)) e c (spec_elements terminal t)
+      (elements_after terminal b (values_of k ps)) r a (spec_given q)
+      (parts_after b k s n)
 
-  spec_parts_behind : {u : Bool} {ps : List StringPart} (k : Bool) → Stands u ps → Neat ps
-      → Behind u (first_text (spec_values_of k ps)) (elements_behind terminal true (spec_values_of k ps)) ps
-  spec_parts_behind k no_part n = record { parts = []; given = G.no_part; merges = refl }
-  spec_parts_behind k (text no_part) (neat_text {c = c} {cs = cs} n h) = text_behind c cs [] h refl (spec_parts_behind k no_part n)
-  spec_parts_behind k (text (text s)) (neat_text n h) = absurd (cc)
-  spec_parts_behind k (text (field_of r a q s)) (neat_text {c = c} {cs = cs} n h) =
-      text_behind c cs [] h refl (spec_parts_behind k (field_of r a q s) n)
-  spec_parts_behind k (field_of {e = e} {c = c} {s = t} {ps = ps} r a q s) (neat_field n) =
-      field_behind true (first_text (spec_values_of k ps)) e c (spec_elements terminal t)
-      (elements_behind terminal true (spec_values_of k ps)) r a
-      (spec_given q) (spec_parts_behind k s n)
+  spec_parts_after : {u : Bool} {ps : List StringPart} (k : Bool) → Stands u ps → Neat ps
+      → Following u (first_text (spec_values_of k ps)) (elements_after terminal true (spec_values_of k ps)) ps
+  spec_parts_after k no_part n = record { parts = []; given = G.no_part; merges = refl }
+  spec_parts_after k (text no_part) (neat_text {c = c} {cs = cs} n h) = text_following c cs [] h refl (spec_parts_after k no_part n)
+  spec_parts_after k (text (text s)) (neat_text n h) = absurd (cc)
+  spec_parts_after k (text (field_of r a q s)) (neat_text {c = c} {cs = cs} n h) =
+      text_following c cs [] h refl (spec_parts_after k (field_of r a q s) n)
+  spec_parts_after k (field_of {e = e} {c = c} {s = t} {ps = ps} r a q s) (neat_field n) =
+      field_after true (first_text (spec_values_of k ps)) e c (spec_elements terminal t)
+      (elements_after terminal true (spec_values_of k ps)) r a
+      (spec_given q) (spec_parts_after k s n)
 
   spec_given : {u : Bool} {s : OptionalExpr} → SpecStands u s → G.Spec u (inner (spec_elements terminal s)) s
   spec_given no_spec = G.no_spec
   spec_given {u} (spec {ps = ps} s m) =
-      let f : Behind u (first_text (spec_values_of u ps)) (elements_behind terminal true (spec_values_of u ps)) ps =
-      spec_parts_behind u s (subst Neat m (merged_neat ps)) in
+      let f : Following u (first_text (spec_values_of u ps)) (elements_after terminal true (spec_values_of u ps)) ps =
+      spec_parts_after u s (subst Neat m (merged_neat ps)) in
       let ts : List Terminal = inner (spec_elements terminal (present (Trees.JoinedStr (spec_values_of u ps)))) in
       subst (λ z. G.Spec u ts (present (Trees.JoinedStr (spec_values_of u z)))) f.merges
       (G.spec (G.text_part f.given))
 
-all_behind : {u : Bool} {ps : List StringPart} (k : Bool) → Stands u ps → merged ps ≡ ps
-    → Behind u (first_text (values_of k ps)) (elements_behind terminal false (values_of k ps)) ps
-all_behind {ps = ps} k s m = parts_behind false k s (subst Neat m (merged_neat ps))
+all_after : {u : Bool} {ps : List StringPart} (k : Bool) → Stands u ps → merged ps ≡ ps
+    → Following u (first_text (values_of k ps)) (elements_after terminal false (values_of k ps)) ps
+all_after {ps = ps} k s m = parts_after false k s (subst Neat m (merged_neat ps))
 
 -- ---- Kinds.
 
@@ -314,13 +314,13 @@ pub record Joins (ts : List Terminal) (es : Exprs) : Type 0 where
   pub values : values_of kind (merged parts) ≡ es
 
 abbrev text_at : Bool → Exprs → List Terminal
-text_at k es = joined terminal k (first_text es) (elements_behind terminal false es)
+text_at k es = joined terminal k (first_text es) (elements_after terminal false es)
 
 -- with a literal in front of the f-string
 kind_given : {ps : List StringPart} → Stands true ps → merged ps ≡ ps → Joins (text_at true (values_of true ps)) (values_of true ps)
 kind_given {ps} s m =
-    let f : Behind true (first_text (values_of true ps)) (elements_behind terminal false (values_of true ps)) ps =
-    all_behind true s m in record {
+    let f : Following true (first_text (values_of true ps)) (elements_after terminal false (values_of true ps)) ps =
+    all_after true s m in record {
       kind = true;
       parts = Parts.Text (first_text (values_of true ps)) ∷ (Parts.Text [] ∷ f.parts ++ []);
       literals = G.text_literal (G.formatted_literal (G.text_part f.given) G.no_literal);
@@ -333,7 +333,7 @@ kind_given {ps} s m =
 plain_given : {ps : List StringPart} (k : Bool) → Stands false ps → merged ps ≡ ps
     → Joins (text_at false (values_of k ps)) (values_of false ps)
 plain_given {ps} k s m =
-    let f : Behind false (first_text (values_of k ps)) (elements_behind terminal false (values_of k ps)) ps = all_behind k s m in record {
+    let f : Following false (first_text (values_of k ps)) (elements_after terminal false (values_of k ps)) ps = all_after k s m in record {
       kind = false;
       parts = Parts.Text (first_text (values_of k ps)) ∷ (f.parts ++ []);
       literals = G.formatted_literal (G.text_part f.given) G.no_literal;
@@ -353,7 +353,7 @@ joined_given true false {ps} s m h =
 
 enough : {u : Bool} {ts : List Terminal} {ps : List StringPart} (k : Bool) (es : Exprs) → LiteralsClaim u ts ps
     → (k ≡ true → begins_unicode ts ≡ true) → has_formatted ts ≡ true
-    → AtLeast (joined one k (first_text es) (elements_behind one false es)) ts
+    → AtLeast (joined one k (first_text es) (elements_after one false es)) ts
 enough true es c b h = record { count = c.count; counted = c.counted; enough = omega (arith, c.two (b refl) h) }
 enough false es c b h = record { count = c.count; counted = c.counted; enough = omega (arith, c.some h) }
 

@@ -69,7 +69,7 @@ ends_text t = bytes_eq t (codes "->") || (not (is_comparison t) && list_any is_e
 abbrev pub ends_field : Piece → Bool
 ends_field p = is_operator_kind p.kind && ends_text p.text
 
--- Behind pieces that left these brackets open, the last one first: each bracket is closed by one of its own kind, and outside brackets
+-- After pieces that left these brackets open, the last one first: each bracket is closed by one of its own kind, and outside brackets
 -- there is no
 -- operator that an expression of a field doesn't have there.
 abbrev pub are_enclosed : List (List ℕ) → List Piece → Bool
@@ -81,7 +81,7 @@ are_enclosed os (p ∷ ps) =
 
 -- ---- Literals.
 
--- what stands behind a literal's quote: own characters and the same quote
+-- what stands after a literal's quote: own characters and the same quote
 abbrev pub ends_plainly : ℕ → List ℕ → Bool
 ends_plainly q [] = false
 ends_plainly q (c ∷ []) = c == q
@@ -95,7 +95,7 @@ is_plain_literal (c ∷ t) = if c == double_quote then ends_plainly double_quote
 abbrev pub is_plain_piece : Piece → Bool
 is_plain_piece p = elim p.kind [ kinds.String ↦ is_plain_literal p.text | _ ↦ true ]
 
--- ---- The expression of a field, and what stands behind it.
+-- ---- The expression of a field, and what stands after it.
 
 -- the brackets that may be open at once in the text of a field
 abbrev pub most_open : ℕ
@@ -108,7 +108,7 @@ pub record IsFieldExpression (ps : List Piece) : Type 0 where
   pub shallow : opens_within most_open 0 ps ≡ true
   pub plain : list_all is_plain_piece ps ≡ true
 
--- what stands behind the brace of the field
+-- what stands after the brace of the field
 abbrev pub expression_text : List Piece → List ℕ
 expression_text [] = []
 expression_text (p ∷ ps) = (if begins_with left_curly_bracket p.text then space ∷ [] else []) ++ spaced (p ∷ ps)

@@ -57,13 +57,13 @@ own_read bytes (c ∷ t) a =
 
 -- ---- The front of a literal.
 
--- what it says, and what stands behind its prefix
-record Opened (bytes u : Bool) (t behind : List ℕ) : Type 0 where
+-- what it says, and what stands after its prefix
+record Opened (bytes u : Bool) (t following : List ℕ) : Type 0 where
   pub raw : is_raw t ≡ false
   pub formatted : is_formatted t ≡ false
   pub of_bytes : is_bytes t ≡ bytes
   pub of_u : is_unicode t ≡ u
-  pub literal : drop (prefix_len_of t) t ≡ behind
+  pub literal : drop (prefix_len_of t) t ≡ following
 
 abbrev value_by : Bool → Bool → List ℕ → Value
 value_by bytes u points = if bytes then Bytes points else Str points u

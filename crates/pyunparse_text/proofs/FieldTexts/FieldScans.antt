@@ -8,7 +8,7 @@ use Rattle.std.specs.List.{list_all, list_any}
 use Rattle.std.proofs.lemmas.Bool.{cases_Bool, eqb-true, false_from_ne_true, and_parts}
 use Rattle.unicode_ident.proofs.IdentLemmas.{is_xid_start-ascii}
 use Rattle.pyfstring.specs.Texts.{begins_with}
-use Rattle.pyfstring.specs.Expressions.{step, scan, expression, behind_expression}
+use Rattle.pyfstring.specs.Expressions.{step, scan, expression, following_expression}
 use Rattle.pyfstring.specs.Pieces.{is_blank}
 use Rattle.pylex_listing.specs.declared.kind.Kind.{Kind}
 use Rattle.pylex_listing.specs.declared.kind.Kind.TheVariants as kinds
@@ -17,35 +17,35 @@ use Rattle.pylex_lexeme.specs.Numbers.{is_decimal_digit}
 use Rattle.pylex_lexeme.specs.Operators.{is_operator}
 use Rattle.pylex_lexeme.specs.Strings.{begins_quote, lower, prefixes}
 use Rattle.pylex_lexeme.proofs.Callers.Lexemes.{words, heads}
-use Rattle.pyunparse_text.specs.Spacing.{Piece, is_token, touches, text_behind, stay_apart, are_two_points, all_apart, are_readable}
+use Rattle.pyunparse_text.specs.Spacing.{Piece, is_token, touches, text_following, stay_apart, are_two_points, all_apart, are_readable}
 use Rattle.pyunparse_text.specs.Tokens.{opens_within}
-use Rattle.pyunparse_text.proofs.LexemeFronts.PieceFronts.{IsPiece, ArePieces, Clear, Off, clear_behind, none_empty, no_token}
+use Rattle.pyunparse_text.proofs.LexemeFronts.PieceFronts.{IsPiece, ArePieces, Clear, Off, clear_after, none_empty, no_token}
 use Rattle.pyunparse_text.proofs.FieldTexts.Conditions.{is_within, are_enclosed, is_plain_piece, most_open, IsFieldExpression}
 use Rattle.pyunparse_text.proofs.FieldTexts.Conditions.{expression_text}
 use Rattle.pyunparse_text.proofs.FieldTexts.Conditions.{EndsExpression, brace, spec, conversion}
 use Rattle.pyunparse_text.proofs.FieldTexts.Characters.{Bracket, plain_passed}
 use Rattle.pyunparse_text.proofs.FieldTexts.OperatorScans.{Stands, none, more, joins_equals}
-use Rattle.pyunparse_text.proofs.FieldTexts.PieceScans.{Follows, Behind, piece_scanned}
+use Rattle.pyunparse_text.proofs.FieldTexts.PieceScans.{Follows, Following, piece_scanned}
 
--- ---- What stands behind a piece.
+-- ---- What stands after a piece.
 
 -- what the first character of a text, if there is one, fails
 abbrev Fails : (ℕ → Bool) → List ℕ → Type 0
 Fails f r = begins f r ≡ false
 
--- behind a piece that another follows, the first character is the same whatever stands behind these
-same_first : (f : ℕ → Bool) (q s : Piece) (ss : List Piece) (a b : List ℕ) → IsPiece s → Fails f (text_behind q (s ∷ ss) ++ a)
-    → Fails f (text_behind q (s ∷ ss) ++ b)
+-- after a piece that another follows, the first character is the same whatever stands after these
+same_first : (f : ℕ → Bool) (q s : Piece) (ss : List Piece) (a b : List ℕ) → IsPiece s → Fails f (text_following q (s ∷ ss) ++ a)
+    → Fails f (text_following q (s ∷ ss) ++ b)
 same_first f q s ss a b i e = elim (cases_Bool (touches q s)) [
   | inl t ↦ rw t (head s.kind s.text i (rw t at e))
   | inr t ↦ rw t (rw t at e)
 ]
   where
-    head : (k : Kind) (t : List ℕ) → is_token k t ≡ true → Fails f ((t ++ text_behind s ss) ++ a) → Fails f ((t ++ text_behind s ss) ++ b)
+    head : (k : Kind) (t : List ℕ) → is_token k t ≡ true → Fails f ((t ++ text_following s ss) ++ a) → Fails f ((t ++ text_following s ss) ++ b)
     head k [] i e = absurd (none_empty k i)
     head k (c ∷ t) i e = e
 
--- what stands behind an expression
+-- what stands after an expression
 ends_by : (f : ℕ → Bool) (rest : List ℕ) → f 125 ≡ false → f 58 ≡ false → f 33 ≡ false → EndsExpression rest → Fails f rest
 ends_by f rest a b c brace = a
 ends_by f rest a b c spec = b
@@ -63,7 +63,7 @@ quote_clear : (r : List ℕ) → begins_quote r ≡ false → Fails (λ c. (c ==
 quote_clear [] e = refl
 quote_clear (c ∷ r) e = e
 
--- where `=` would make a longer operator, none stands behind one
+-- where `=` would make a longer operator, none stands after one
 equals_clear : (t r : List ℕ) → Clear kinds.Op t r → joins_equals t ≡ true → Fails (λ c. c == 61) r
 equals_clear t [] c e = refl
 equals_clear t (d ∷ r) c e =
@@ -73,24 +73,24 @@ equals_clear t (d ∷ r) c e =
     (λ (x : ℕ). is_operator (t ++ x ∷ []) ≡ false) f n in cc)
 
 follows : (q : Piece) (qs : List Piece) (rest : List ℕ) → IsPiece q → ArePieces qs → all_apart q qs ≡ true → EndsExpression rest
-    → Follows q.kind q.text (text_behind q qs ++ rest)
+    → Follows q.kind q.text (text_following q qs ++ rest)
 follows q [] rest i a p e = record {
   quote = λ k. quote_begins rest (ends_by (λ c. (c == 39) || (c == 34)) rest refl refl refl e);
   equals = λ k j. equals_begins rest (ends_by (λ c. c == 61) rest refl refl refl e);
 }
 follows q (s ∷ ss) rest i a p e =
-    let c : Clear q.kind q.text (text_behind q (s ∷ ss) ++ 10 ∷ []) = clear_behind q (s ∷ ss) [] i a p in
+    let c : Clear q.kind q.text (text_following q (s ∷ ss) ++ 10 ∷ []) = clear_after q (s ∷ ss) [] i a p in
     let b = (and_parts (is_token s.kind s.text) (list_all (λ r. is_token r.kind r.text) ss) a).0 in
     record {
       quote = λ k.
-          quote_begins (text_behind q (s ∷ ss) ++ rest)
+          quote_begins (text_following q (s ∷ ss) ++ rest)
           (same_first (λ c. (c == 39) || (c == 34)) q s ss (10 ∷ []) rest b
-          (quote_clear (text_behind q (s ∷ ss) ++ 10 ∷ []) (subst (λ (x : Kind). Clear x q.text (text_behind q (s ∷ ss) ++ 10 ∷ [])) k c)));
+          (quote_clear (text_following q (s ∷ ss) ++ 10 ∷ []) (subst (λ (x : Kind). Clear x q.text (text_following q (s ∷ ss) ++ 10 ∷ [])) k c)));
       equals = λ k j.
-          equals_begins (text_behind q (s ∷ ss) ++ rest)
+          equals_begins (text_following q (s ∷ ss) ++ rest)
           (same_first (λ c. c == 61) q s ss (10 ∷ []) rest b
-          (equals_clear q.text (text_behind q (s ∷ ss) ++ 10 ∷ [])
-          (subst (λ (x : Kind). Clear x q.text (text_behind q (s ∷ ss) ++ 10 ∷ [])) k c) j));
+          (equals_clear q.text (text_following q (s ∷ ss) ++ 10 ∷ [])
+          (subst (λ (x : Kind). Clear x q.text (text_following q (s ∷ ss) ++ 10 ∷ [])) k c) j));
     }
 
 -- ---- The scan.
@@ -118,21 +118,21 @@ record Ready (os : List (List ℕ)) (bs : List Bracket) (d : ℕ) (ps : List Pie
   pub shallow : opens_within most_open d ps ≡ true
   pub plain : list_all is_plain_piece ps ≡ true
 
--- nothing is open behind the last piece
+-- nothing is open after the last piece
 closed : {os : List (List ℕ)} {bs : List Bracket} (rest : List ℕ) → Stands os bs → not (is_within os) ≡ true → EndsExpression rest
     → scan expression bs 0 rest ≡ Some rest
 closed rest none n e = ended rest e
 closed rest (more s f) n e = cc
 
 first_of : {os : List (List ℕ)} {bs : List Bracket} {d : ℕ} (p : Piece) (ps : List Piece) (rest : List ℕ) → Ready os bs d (p ∷ ps)
-    → all_apart p ps ≡ true → EndsExpression rest → Behind d bs p ps (text_behind p ps ++ rest)
+    → all_apart p ps ≡ true → EndsExpression rest → Following d bs p ps (text_following p ps ++ rest)
 first_of {d = d} p ps rest r a e =
     let i = and_parts (is_token p.kind p.text) (list_all (λ r. is_token r.kind r.text) ps) r.pieces in
     let k = and_parts (is_plain_piece p) (list_all is_plain_piece ps) r.plain in
-    piece_scanned d p ps (text_behind p ps ++ rest) r.stands r.long i.0 k.0 r.enclosed r.shallow (follows p ps rest i.0 i.1 a e)
+    piece_scanned d p ps (text_following p ps ++ rest) r.stands r.long i.0 k.0 r.enclosed r.shallow (follows p ps rest i.0 i.1 a e)
 
 pieces_scanned : (os : List (List ℕ)) (bs : List Bracket) (d : ℕ) (p : Piece) (ps : List Piece) (rest : List ℕ) → Ready os bs d (p ∷ ps)
-    → all_apart p ps ≡ true → EndsExpression rest → scan expression bs 0 (p.text ++ (text_behind p ps ++ rest)) ≡ Some rest
+    → all_apart p ps ≡ true → EndsExpression rest → scan expression bs 0 (p.text ++ (text_following p ps ++ rest)) ≡ Some rest
 pieces_scanned os bs d p [] rest r a e = let b = first_of p [] rest r a e in b.passed.same ∙ closed rest b.passed.stands b.enclosed e
 pieces_scanned os bs d p (q ∷ qs) rest r a e =
     let b = first_of p (q ∷ qs) rest r a e in
@@ -140,22 +140,22 @@ pieces_scanned os bs d p (q ∷ qs) rest r a e =
     let k = and_parts (is_plain_piece p) (list_all is_plain_piece (q ∷ qs)) r.plain in
     let c = and_parts (not (touches p q) || (stay_apart p q || are_two_points p q qs)) (all_apart q qs) a in
     b.passed.same
-    ∙ ap (λ x. scan expression b.passed.brackets 0 x) (append_assoc (if touches p q then [] else 32 ∷ []) (q.text ++ text_behind q qs) rest)
-    ∙ gap_scanned b.passed.brackets (touches p q) ((q.text ++ text_behind q qs) ++ rest)
-    ∙ ap (λ x. scan expression b.passed.brackets 0 x) (append_assoc q.text (text_behind q qs) rest)
+    ∙ ap (λ x. scan expression b.passed.brackets 0 x) (append_assoc (if touches p q then [] else 32 ∷ []) (q.text ++ text_following q qs) rest)
+    ∙ gap_scanned b.passed.brackets (touches p q) ((q.text ++ text_following q qs) ++ rest)
+    ∙ ap (λ x. scan expression b.passed.brackets 0 x) (append_assoc q.text (text_following q qs) rest)
     ∙ pieces_scanned b.opened b.passed.brackets b.depth q qs rest
     (record { stands = b.passed.stands; long = b.long; pieces = i.1; enclosed = b.enclosed; shallow = b.shallow; plain = k.1 }) c.1 e
 
 -- The law: a scan of the text ends where it ends.
 pub field_scanned : (ps : List Piece) (rest : List ℕ) → IsFieldExpression ps → EndsExpression rest
-    → behind_expression (expression_text ps ++ rest) ≡ Some rest
-unfolding behind_expression
+    → following_expression (expression_text ps ++ rest) ≡ Some rest
+unfolding following_expression
 field_scanned [] rest f e = let n : false ≡ true = f.readable in cc
 field_scanned (p ∷ ps) rest f e =
     let r = and_parts (list_all (λ q. is_token q.kind q.text) (p ∷ ps)) (all_apart p ps) f.readable in
-    ap (λ x. scan expression [] 0 x) (append_assoc (if begins_with 123 p.text then 32 ∷ [] else []) (p.text ++ text_behind p ps) rest)
-    ∙ blank_scanned [] (begins_with 123 p.text) ((p.text ++ text_behind p ps) ++ rest)
-    ∙ ap (λ x. scan expression [] 0 x) (append_assoc p.text (text_behind p ps) rest)
+    ap (λ x. scan expression [] 0 x) (append_assoc (if begins_with 123 p.text then 32 ∷ [] else []) (p.text ++ text_following p ps) rest)
+    ∙ blank_scanned [] (begins_with 123 p.text) ((p.text ++ text_following p ps) ++ rest)
+    ∙ ap (λ x. scan expression [] 0 x) (append_assoc p.text (text_following p ps) rest)
     ∙ pieces_scanned [] [] 0 p ps rest
     (record { stands = none; long = refl; pieces = r.0; enclosed = f.enclosed; shallow = f.shallow; plain = f.plain }) r.1 e
 
@@ -200,5 +200,5 @@ field_not_blank [] e = cc
 field_not_blank (p ∷ ps) e =
     let r = and_parts (list_all (λ q. is_token q.kind q.text) (p ∷ ps)) (all_apart p ps) e in
     let i = and_parts (is_token p.kind p.text) (list_all (λ q. is_token q.kind q.text) ps) r.0 in
-    let n = not_blank p.kind p.text (text_behind p ps) i.0 in
+    let n = not_blank p.kind p.text (text_following p ps) i.0 in
     elim (cases_Bool (begins_with 123 p.text)) [ inl h ↦ rw h n | inr h ↦ rw h n ]

@@ -25,9 +25,9 @@ use Rattle.pylex_lexeme.specs.declared.lexeme.Class.TheVariants.{Operator, Join}
 use Rattle.pylex_lexeme.specs.Lexemes.{Lexeme, is_opener_class, is_closer_class}
 use Rattle.pylex_lexeme.specs.Operators.{exact_of, is_operator, is_opener, is_closer}
 use Rattle.pytoken.specs.FormattedStrings.{has_no_tokens}
-use Rattle.pyunparse_text.specs.Spacing.{Piece, is_token, touches, text_behind, all_apart, are_readable}
+use Rattle.pyunparse_text.specs.Spacing.{Piece, is_token, touches, text_following, all_apart, are_readable}
 use Rattle.pyunparse_text.specs.Tokens.{exact_in, token_of, opens, closes, closes_all}
-use Rattle.pyunparse_text.specs.Inner.Relexed.{lexeme_of, blanks, lexemes_behind}
+use Rattle.pyunparse_text.specs.Inner.Relexed.{lexeme_of, blanks, lexemes_after}
 use Rattle.pyunparse_text.proofs.LexemeFronts.PieceFronts.{IsPiece, ArePieces}
 use Rattle.pyunparse_text.proofs.Sources.Bytes.{scalars_both}
 use Rattle.pyunparse_text.proofs.FieldTexts.Conditions.{expression_text}
@@ -78,7 +78,7 @@ sign_own t e = by (exact_of t) refl
         subst (IsOwnSign t) (sym f) (record { tokens = λ xs. refl; opener = refl; closer = refl; apart = brackets_apart x; comment = refl })
     by None f = absurd (let g : false ≡ true = rw f at e in cc)
 
-own_of : (k : Kind) (t : List ℕ) (b h : Bool) → is_token k t ≡ true → IsOwn (record { kind = k; text = t; before = b; behind = h })
+own_of : (k : Kind) (t : List ℕ) (b h : Bool) → is_token k t ≡ true → IsOwn (record { kind = k; text = t; before = b; following = h })
 own_of kinds.Name t b h e = record { tokens = λ xs. refl; opener = refl; closer = refl; apart = refl; comment = refl }
 own_of kinds.Number t b h e = record { tokens = λ xs. refl; opener = refl; closer = refl; apart = refl; comment = refl }
 own_of kinds.String t b h e = record { tokens = λ xs. refl; opener = refl; closer = refl; apart = refl; comment = refl }
@@ -93,7 +93,7 @@ own_of kinds.Dedent t b h e = cc
 own_of kinds.EndMarker t b h e = cc
 
 is_own : (p : Piece) → IsPiece p → IsOwn p
-is_own p i = own_of p.kind p.text p.before p.behind i
+is_own p i = own_of p.kind p.text p.before p.following i
 
 -- ---- All pieces.
 
@@ -110,12 +110,12 @@ counted p x xs = sum_by-cons (λ y. count_if (p y)) x xs
 none_own : AreOwn [] []
 none_own = record { tokens = refl; comments = refl; balanced = λ d e. refl; closed = λ d e. let f : d ≡ 0 = eqb-true d 0 e in omega arith }
 
--- what is asked of the brackets behind a piece that opens or closes one
-abbrev closed_behind : Bool → Bool → ℕ → List Piece → Bool
-closed_behind o c d ps = if o then closes_all (d + 1) ps else (if c then not (d == 0) && closes_all (d - 1) ps else closes_all d ps)
+-- what is asked of the brackets after a piece that opens or closes one
+abbrev closed_after : Bool → Bool → ℕ → List Piece → Bool
+closed_after o c d ps = if o then closes_all (d + 1) ps else (if c then not (d == 0) && closes_all (d - 1) ps else closes_all d ps)
 
 balanced_by : (o c : Bool) (d : ℕ) (ps : List Piece) (xs : List Lexeme) → (o && c) ≡ false
-    → ((n : ℕ) → closes_all n ps ≡ true → closes_none n xs ≡ false) → closed_behind o c d ps ≡ true
+    → ((n : ℕ) → closes_all n ps ≡ true → closes_none n xs ≡ false) → closed_after o c d ps ≡ true
     → ((c && (d == 0)) || closes_none (d + count_if o - count_if c) xs) ≡ false
 balanced_by true true d ps xs a r e = cc
 balanced_by true false d ps xs a r e = let n : d + 1 - 0 ≡ d + 1 = omega arith in ap (λ m. closes_none m xs) n ∙ r (d + 1) e
@@ -127,7 +127,7 @@ balanced_by false true d ps xs a r e =
 balanced_by false false d ps xs a r e = let n : d + 0 - 0 ≡ d = omega arith in ap (λ m. closes_none m xs) n ∙ r d e
 
 closed_by : (o c : Bool) (d m n : ℕ) (ps : List Piece) → (o && c) ≡ false → ((k : ℕ) → closes_all k ps ≡ true → k + m ≡ n)
-    → closed_behind o c d ps ≡ true → d + (count_if o + m) ≡ count_if c + n
+    → closed_after o c d ps ≡ true → d + (count_if o + m) ≡ count_if c + n
 closed_by true true d m n ps a r e = cc
 closed_by true false d m n ps a r e = let w = r (d + 1) e in omega arith
 closed_by false true d m n ps a r e =
@@ -168,14 +168,14 @@ blank_own ps xs a = record {
     same : (d : ℕ) → d + count_if false - count_if false ≡ d
     same d = omega arith
 
-behind_own : (p : Piece) (qs : List Piece) → ArePieces qs → AreOwn (lexemes_behind p qs) qs
-behind_own p [] a = none_own
-behind_own p (q ∷ qs) a =
+after_own : (p : Piece) (qs : List Piece) → ArePieces qs → AreOwn (lexemes_after p qs) qs
+after_own p [] a = none_own
+after_own p (q ∷ qs) a =
     let i = and_parts (is_token q.kind q.text) (list_all (λ r. is_token r.kind r.text) qs) a in
-    let k = piece_own q qs (lexemes_behind q qs) i.0 (behind_own q qs i.1) in
+    let k = piece_own q qs (lexemes_after q qs) i.0 (after_own q qs i.1) in
     elim (cases_Bool (touches p q)) [
       | inl t ↦ rw t k
-      | inr t ↦ rw t (blank_own (q ∷ qs) (lexeme_of q ∷ lexemes_behind q qs) k)
+      | inr t ↦ rw t (blank_own (q ∷ qs) (lexeme_of q ∷ lexemes_after q qs) k)
     ]
 
 expression_own : (ps : List Piece) → are_readable ps ≡ true → AreOwn (expression_lexemes ps) ps
@@ -183,9 +183,9 @@ expression_own [] e = cc
 expression_own (p ∷ ps) e =
     let r = and_parts (list_all (λ q. is_token q.kind q.text) (p ∷ ps)) (all_apart p ps) e in
     let i = and_parts (is_token p.kind p.text) (list_all (λ q. is_token q.kind q.text) ps) r.0 in
-    let k = piece_own p ps (lexemes_behind p ps) i.0 (behind_own p ps i.1) in
+    let k = piece_own p ps (lexemes_after p ps) i.0 (after_own p ps i.1) in
     elim (cases_Bool (begins_with 123 p.text)) [
-      | inl t ↦ rw t (blank_own (p ∷ ps) (lexeme_of p ∷ lexemes_behind p ps) k)
+      | inl t ↦ rw t (blank_own (p ∷ ps) (lexeme_of p ∷ lexemes_after p ps) k)
       | inr t ↦ rw t k
     ]
 
@@ -225,12 +225,12 @@ field_has_tokens ps e c h =
     rw (f, b, u) refl
 
 -- its characters are scalars
-behind_scalars : (p : Piece) (qs : List Piece) → list_all (λ q. all_scalars q.text) qs ≡ true → all_scalars (text_behind p qs) ≡ true
-behind_scalars p [] a = refl
-behind_scalars p (q ∷ qs) a =
+after_scalars : (p : Piece) (qs : List Piece) → list_all (λ q. all_scalars q.text) qs ≡ true → all_scalars (text_following p qs) ≡ true
+after_scalars p [] a = refl
+after_scalars p (q ∷ qs) a =
     let i = and_parts (all_scalars q.text) (list_all (λ q. all_scalars q.text) qs) a in
-    scalars_both (if touches p q then [] else 32 ∷ []) (q.text ++ text_behind q qs) (gap (touches p q))
-    (scalars_both q.text (text_behind q qs) i.0 (behind_scalars q qs i.1))
+    scalars_both (if touches p q then [] else 32 ∷ []) (q.text ++ text_following q qs) (gap (touches p q))
+    (scalars_both q.text (text_following q qs) i.0 (after_scalars q qs i.1))
   where
     gap : (b : Bool) → all_scalars (if b then [] else 32 ∷ []) ≡ true
     gap true = refl
@@ -240,8 +240,8 @@ pub field_scalars : (ps : List Piece) → list_all (λ p. all_scalars p.text) ps
 field_scalars [] a = refl
 field_scalars (p ∷ ps) a =
     let i = and_parts (all_scalars p.text) (list_all (λ q. all_scalars q.text) ps) a in
-    scalars_both (if begins_with 123 p.text then 32 ∷ [] else []) (p.text ++ text_behind p ps) (blank (begins_with 123 p.text))
-    (scalars_both p.text (text_behind p ps) i.0 (behind_scalars p ps i.1))
+    scalars_both (if begins_with 123 p.text then 32 ∷ [] else []) (p.text ++ text_following p ps) (blank (begins_with 123 p.text))
+    (scalars_both p.text (text_following p ps) i.0 (after_scalars p ps i.1))
   where
     blank : (b : Bool) → all_scalars (if b then 32 ∷ [] else []) ≡ true
     blank true = refl

@@ -20,7 +20,7 @@ use Rattle.pylex_lexeme.specs.Numbers.{is_number}
 use Rattle.pylex_lexeme.specs.Operators.{is_operator}
 use Rattle.pylex_lexeme.proofs.Callers.Lexemes.{words, by_words}
 use Rattle.pylex_lexeme.proofs.Callers.WholeLines.{one_of}
-use Rattle.pyunparse_text.specs.Spacing.{Piece, is_token, touches, text_behind, all_apart}
+use Rattle.pyunparse_text.specs.Spacing.{Piece, is_token, touches, text_following, all_apart}
 use Rattle.pyunparse_text.specs.Written.{Element, End}
 use Rattle.pyunparse_text.specs.Pieces.{Sited, in_field, conversion_text, field_text, element_text, quote, character_text}
 use Rattle.pyunparse_text.proofs.LexemeFronts.PieceFronts.{ArePieces}
@@ -210,12 +210,12 @@ first_can is_in_field p ps c =
       later = record { pieces = i.1; plain = k.1; allowed = a.1; scalars = s.1 };
     }
 
-behind_in : (is_in_field : Bool) (p : Piece) (qs : List Piece) → CanBeIn is_in_field qs → IsInString is_in_field (text_behind p qs)
-behind_in is_in_field p [] c = nothing is_in_field
-behind_in is_in_field p (q ∷ qs) c =
+after_in : (is_in_field : Bool) (p : Piece) (qs : List Piece) → CanBeIn is_in_field qs → IsInString is_in_field (text_following p qs)
+after_in is_in_field p [] c = nothing is_in_field
+after_in is_in_field p (q ∷ qs) c =
     let f = first_can is_in_field q qs c in
-    both (if touches p q then [] else 32 ∷ []) (q.text ++ text_behind q qs) (none_or_blank is_in_field (touches p q))
-    (both q.text (text_behind q qs) f.here (behind_in is_in_field q qs f.later))
+    both (if touches p q then [] else 32 ∷ []) (q.text ++ text_following q qs) (none_or_blank is_in_field (touches p q))
+    (both q.text (text_following q qs) f.here (after_in is_in_field q qs f.later))
 
 expression_in : (is_in_field : Bool) (ps : List Piece) → IsFieldExpression ps → list_all (is_allowed is_in_field) ps ≡ true
     → IsInString is_in_field (expression_text ps)
@@ -223,8 +223,8 @@ expression_in is_in_field [] e a = nothing is_in_field
 expression_in is_in_field (p ∷ ps) e a =
     let r = and_parts (list_all (λ q. is_token q.kind q.text) (p ∷ ps)) (all_apart p ps) e.readable in
     let f = first_can is_in_field p ps (record { pieces = r.0; plain = e.plain; allowed = a; scalars = e.scalars }) in
-    both (if begins_with 123 p.text then 32 ∷ [] else []) (p.text ++ text_behind p ps) (blank_or_none is_in_field (begins_with 123 p.text))
-    (both p.text (text_behind p ps) f.here (behind_in is_in_field p ps f.later))
+    both (if begins_with 123 p.text then 32 ∷ [] else []) (p.text ++ text_following p ps) (blank_or_none is_in_field (begins_with 123 p.text))
+    (both p.text (text_following p ps) f.here (after_in is_in_field p ps f.later))
 
 -- ---- Elements.
 

@@ -18,7 +18,7 @@ use Rattle.pyfstring.specs.Pieces.{unspecified, specified, IsField, Cuts, last_t
 use Rattle.pyfstring.specs.Cutting.{cut_of}
 use Rattle.pyfstring.proofs.Callers.Law.{cut_of_complete}
 use Rattle.pylex_listing.specs.declared.kind.Kind.TheVariants as kinds
-use Rattle.pyunparse_text.specs.Spacing.{Piece, is_token, text_behind, all_apart, are_readable}
+use Rattle.pyunparse_text.specs.Spacing.{Piece, is_token, text_following, all_apart, are_readable}
 use Rattle.pyunparse_text.specs.Written.{Element, Text, Field, Spec, End}
 use Rattle.pyunparse_text.specs.Pieces.{Sited, in_field, conversion_text, field_text, element_text}
 use Rattle.pyunparse_text.proofs.LexemeFronts.PieceFronts.{none_empty}
@@ -83,7 +83,7 @@ IsBody is_in_field = AreParts is_in_field false (IsOuterField is_in_field)
 abbrev pub elements_text : Bool → List (Element Sited) → List ℕ
 elements_text is_in_field es = flat_map (element_text is_in_field) es
 
--- no brace stands behind the brace of a field
+-- no brace stands after the brace of a field
 no_second_brace : (ps : List Piece) (r : List ℕ) → are_readable ps ≡ true → begins_with 123 (expression_text ps ++ r) ≡ false
 no_second_brace [] r e = cc
 no_second_brace (p ∷ ps) r e =
@@ -94,7 +94,7 @@ no_second_brace (p ∷ ps) r e =
       | inr h ↦ rw h (head p.text i h)
     ]
   where
-    head : (t : List ℕ) → is_token p.kind t ≡ true → begins_with 123 t ≡ false → begins_with 123 ((t ++ text_behind p ps) ++ r) ≡ false
+    head : (t : List ℕ) → is_token p.kind t ≡ true → begins_with 123 t ≡ false → begins_with 123 ((t ++ text_following p ps) ++ r) ≡ false
     head [] i h = absurd (none_empty p.kind i)
     head (c ∷ t) i h = h
 
@@ -103,12 +103,12 @@ pub field_text_is : (ps : List Piece) → field_text ps ≡ 123 ∷ expression_t
 field_text_is [] = refl
 field_text_is (p ∷ ps) = refl
 
--- what is behind an expression: a conversion perhaps, and a spec or the end
-data IsBehind : List ℕ → Type 0 where
-  colon : {r : List ℕ} → IsBehind (58 ∷ r)
-  closing : {r : List ℕ} → IsBehind (125 ∷ r)
+-- what is after an expression: a conversion perhaps, and a spec or the end
+data IsFollowing : List ℕ → Type 0 where
+  colon : {r : List ℕ} → IsFollowing (58 ∷ r)
+  closing : {r : List ℕ} → IsFollowing (125 ∷ r)
 
-ends_expression : (c : Conversion) (r : List ℕ) → IsBehind r → EndsExpression (conversion_text c ++ r)
+ends_expression : (c : Conversion) (r : List ℕ) → IsFollowing r → EndsExpression (conversion_text c ++ r)
 ends_expression conversions.None [] i = elim i [ ]
 ends_expression conversions.None (_ ∷ r) colon = spec
 ends_expression conversions.None (_ ∷ r) closing = brace
@@ -116,7 +116,7 @@ ends_expression conversions.Str r i = conversion refl
 ends_expression conversions.Repr r i = conversion refl
 ends_expression conversions.Ascii r i = conversion refl
 
-no_equals : (c : Conversion) (r : List ℕ) → IsBehind r → begins_with 61 (conversion_text c ++ r) ≡ false
+no_equals : (c : Conversion) (r : List ℕ) → IsFollowing r → begins_with 61 (conversion_text c ++ r) ≡ false
 no_equals conversions.None [] i = elim i [ ]
 no_equals conversions.None (_ ∷ r) colon = refl
 no_equals conversions.None (_ ∷ r) closing = refl
@@ -124,12 +124,12 @@ no_equals conversions.Str r i = refl
 no_equals conversions.Repr r i = refl
 no_equals conversions.Ascii r i = refl
 
-no_mark : (r : List ℕ) → IsBehind r → begins_with 33 r ≡ false
+no_mark : (r : List ℕ) → IsFollowing r → begins_with 33 r ≡ false
 no_mark [] i = elim i [ ]
 no_mark (_ ∷ r) colon = refl
 no_mark (_ ∷ r) closing = refl
 
-converts : (c : Conversion) (r : List ℕ) → IsBehind r → Converts (conversion_text c ++ r) c r
+converts : (c : Conversion) (r : List ℕ) → IsFollowing r → Converts (conversion_text c ++ r) c r
 converts conversions.None r i = unconverted (no_mark r i)
 converts conversions.Str r i = by_str
 converts conversions.Repr r i = by_repr
@@ -145,9 +145,9 @@ same_conversion conversions.Ascii b = refl
 abbrev IsSpecified : {S : Type 0} → Bool → (List ℕ → S → List ℕ → Type 0) → (List (Element Sited) → Option S → Type 0) → Type 0
 IsSpecified {S} is_in_field IsSpecAt IsSpecOf = (es : List (Element Sited)) (s : Option S) (rest : List ℕ) → IsSpecOf es s
     → (Specifies IsSpecAt (elements_text is_in_field es ++ 125 ∷ rest) s (125 ∷ rest)) ×
-    (IsBehind (elements_text is_in_field es ++ 125 ∷ rest))
+    (IsFollowing (elements_text is_in_field es ++ 125 ∷ rest))
 
--- a field, behind its brace
+-- a field, after its brace
 abbrev IsCutField : {S : Type 0} → Bool → (List ℕ → FieldParts S → List ℕ → Type 0)
     → (List (Element Sited) → FieldParts S → Type 0) → Type 0
 IsCutField {S} is_in_field IsFieldAt IsFieldOf = (es : List (Element Sited)) (f : FieldParts S) (rest : List ℕ) → IsFieldOf es f
@@ -174,19 +174,19 @@ field_cut is_in_field is_nested IsSpecAt IsSpecOf h es f rest (a_written_field {
     let qs : List Piece = in_field ps in
     let at = h ss s rest i in
     let later : List ℕ = elements_text is_in_field ss ++ 125 ∷ rest in
-    let behind : List ℕ = conversion_text c ++ later in (
-      expression_text qs ++ behind,
+    let following : List ℕ = conversion_text c ++ later in (
+      expression_text qs ++ following,
       whole_field is_in_field c ps ss rest,
-      no_second_brace qs behind e.readable,
+      no_second_brace qs following e.readable,
       record {
-        after_expression = behind;
-        after_kept = behind;
+        after_expression = following;
+        after_kept = following;
         after_conversion = later;
         given = c;
         expression =
             record {
               whole = refl;
-              scanned = field_scanned qs behind e (ends_expression c later at.1);
+              scanned = field_scanned qs following e (ends_expression c later at.1);
               some =
                   field_not_blank qs e.readable;
             };

@@ -132,7 +132,7 @@ opener_of t e h = which (rw h at (opening_shape t e))
       ]
     ]
 
--- what a scan is behind a piece
+-- what a scan is after a piece
 pub record Passed (os : List (List ℕ)) (bs : List Bracket) (t r : List ℕ) : Type 0 where
   pub brackets : List Bracket
   pub stands : Stands os brackets

@@ -1,4 +1,4 @@
--- A piece that a scan of a field's expression passes, whatever stands behind it that doesn't join it.
+-- A piece that a scan of a field's expression passes, whatever stands after it that doesn't join it.
 --
 -- Carries: Follows, piece_scanned, for FieldScans. On: Characters, NumberCharacters, OperatorScans, LiteralScans.
 use Rattle.std.proofs.Common.{◌≡◌, ℕ, ◌+◌, ◌-◌, true, false, not, ◌&&◌, ◌||◌, List, [], ◌∷◌, ◌++◌, length, refl, sym, ◌∙◌, ap, arith, inl}
@@ -39,7 +39,7 @@ name_all (c ∷ t) e =
     rest [] a = refl
     rest (d ∷ t) a = let q = and_parts (is_xid_continue d) (list_all is_xid_continue t) a in let i = name_plain d q.0 in rw i (rest t q.1)
 
--- what matters of what stands behind a token
+-- what matters of what stands after a token
 pub record Follows (k : Kind) (t r : List ℕ) : Type 0 where
   pub quote : k ≡ kinds.String → begins_quote r ≡ false
   pub equals : k ≡ kinds.Op → joins_equals t ≡ true → begins_with 61 r ≡ false
@@ -73,8 +73,8 @@ operator_is kinds.Indent t h e = cc
 operator_is kinds.Dedent t h e = cc
 operator_is kinds.EndMarker t h e = cc
 
--- behind a piece, with the others still enclosed
-pub record Behind (d : ℕ) (bs : List Bracket) (p : Piece) (ps : List Piece) (r : List ℕ) : Type 0 where
+-- after a piece, with the others still enclosed
+pub record Following (d : ℕ) (bs : List Bracket) (p : Piece) (ps : List Piece) (r : List ℕ) : Type 0 where
   pub opened : List (List ℕ)
   pub depth : ℕ
   pub passed : Passed opened bs p.text r
@@ -85,7 +85,7 @@ pub record Behind (d : ℕ) (bs : List Bracket) (p : Piece) (ps : List Piece) (r
 pub piece_scanned : {os : List (List ℕ)} {bs : List Bracket} (d : ℕ) (p : Piece) (ps : List Piece) (r : List ℕ)
     → Stands os bs → d ≡ length os
     → is_token p.kind p.text ≡ true → is_plain_piece p ≡ true → are_enclosed os (p ∷ ps) ≡ true → opens_within most_open d (p ∷ ps) ≡ true
-    → Follows p.kind p.text r → Behind d bs p ps r
+    → Follows p.kind p.text r → Following d bs p ps r
 piece_scanned {os} {bs} d p ps r s l e k a w f = elim (cases_Bool (is_operator_kind p.kind)) [
   | inr n ↦ other n
   | inl n ↦ elim (cases_Bool (opens p)) [
@@ -97,7 +97,7 @@ piece_scanned {os} {bs} d p ps r s l e k a w f = elim (cases_Bool (is_operator_k
   ]
 ]
   where
-    stays : opens p ≡ false → closes p ≡ false → scan expression bs 0 (p.text ++ r) ≡ scan expression bs 0 r → Behind d bs p ps r
+    stays : opens p ≡ false → closes p ≡ false → scan expression bs 0 (p.text ++ r) ≡ scan expression bs 0 r → Following d bs p ps r
     stays o c m = record {
       opened = os;
       depth = d;
@@ -107,16 +107,16 @@ piece_scanned {os} {bs} d p ps r s l e k a w f = elim (cases_Bool (is_operator_k
       long = l;
     }
 
-    other : is_operator_kind p.kind ≡ false → Behind d bs p ps r
+    other : is_operator_kind p.kind ≡ false → Following d bs p ps r
     other n = stays (rw n refl) (rw n refl) (other_scanned bs p.kind p.text r e n k f)
 
-    inner : is_operator_kind p.kind ≡ true → opens p ≡ false → closes p ≡ false → Behind d bs p ps r
+    inner : is_operator_kind p.kind ≡ true → opens p ≡ false → closes p ≡ false → Following d bs p ps r
     inner n o c =
         let i = operator_is p.kind p.text n e in
         let x = and_parts (is_within os || not (ends_field p)) (are_enclosed os ps) (rw (o, c) at a) in
         stays o c (operator_scanned p.text r s i.1 (rw n at o) (rw n at c) (rw n at x.0) (f.equals i.0))
 
-    opener : is_operator_kind p.kind ≡ true → opens p ≡ true → Behind d bs p ps r
+    opener : is_operator_kind p.kind ≡ true → opens p ≡ true → Following d bs p ps r
     opener n o =
         let i = operator_is p.kind p.text n e in
         let w2 : (nat_lt d most_open && opens_within most_open (d + 1) ps) ≡ true = rw o at w in
@@ -132,7 +132,7 @@ piece_scanned {os} {bs} d p ps r s l e k a w f = elim (cases_Bool (is_operator_k
 
     closer : (os : List (List ℕ)) → Stands os bs → are_enclosed os (p ∷ ps) ≡ true → d ≡ length os
         → is_operator_kind p.kind ≡ true → opens p ≡ false
-        → closes p ≡ true → Behind d bs p ps r
+        → closes p ≡ true → Following d bs p ps r
     closer [] s a l n o c = absurd (let z : false ≡ true = rw (o, c) at a in cc)
     closer (t ∷ os) s a l n o c =
         let a2 : (is_pair t p.text && are_enclosed os ps) ≡ true = rw (o, c) at a in

@@ -8,7 +8,7 @@ use Rattle.std.proofs.lemmas.Bool.{not-true, and_parts}
 use Rattle.pyfstring.specs.Texts.{is_brace, unit_len, units_after}
 use Rattle.pyfstring.specs.Singles.{single_after}
 
--- whatever stands behind it, w is whole units, and stands for v but for escapes, in a text that has pairs of braces or not
+-- whatever stands after it, w is whole units, and stands for v but for escapes, in a text that has pairs of braces or not
 pub record Units (has_pairs : Bool) (w v : List ℕ) : Type 0 where
   pub passed : (r : List ℕ) → units_after false has_pairs 0 (w ++ r) ≡ units_after false has_pairs 0 r
   pub single : (r : List ℕ) → has_pairs ≡ true → single_after false 0 (w ++ r) ≡ v ++ single_after false 0 r

@@ -8,7 +8,7 @@ use Rattle.std.specs.List.{list_all, list_any, flat_map}
 use Rattle.std.specs.Str.{all_scalars}
 use Rattle.std.proofs.lemmas.Bool.{and_from, and_parts}
 use Rattle.std.proofs.lemmas.List.Folds.{list_all-append}
-use Rattle.pyfstring.specs.Texts.{begins_with, is_brace, unit_len, units_after, behind_text}
+use Rattle.pyfstring.specs.Texts.{begins_with, is_brace, unit_len, units_after, after_text}
 use Rattle.pyfstring.specs.Singles.{single, single_after}
 use Rattle.pytoken.specs.declared.meanings.Meaning.{Meaning}
 use Rattle.pytoken.specs.declared.meanings.Meaning.TheVariants.{Point}
@@ -86,8 +86,8 @@ ends_there false (c ∷ r) (opener e) = rw (e, units_after) refl
 ends_there true (c ∷ r) (brace_next b) = brace_of (λ x. units_after false false 0 (x ∷ r) ≡ x ∷ r) c refl refl b
 
 pub text_passed : (is_in_field in_spec : Bool) (t rest : List ℕ) → IsText is_in_field in_spec t → EndsText in_spec rest
-    → behind_text false (not in_spec) (text_source is_in_field in_spec t ++ rest) ≡ rest
-unfolding behind_text
+    → after_text false (not in_spec) (text_source is_in_field in_spec t ++ rest) ≡ rest
+unfolding after_text
 text_passed is_in_field in_spec t rest a e = (all is_in_field in_spec t a).units.passed rest ∙ ends_there in_spec rest e
 
 -- ---- It stands for the text.

@@ -12,13 +12,13 @@ use Rattle.pylex_lexeme.specs.Lexemes.{Lexeme, lexeme_at, cut, left_by_cut}
 use Rattle.pylex_listing.specs.Laws.{AreLexemes}
 use Rattle.pylex_lexeme.proofs.Callers.Lexemes.{none_is, nothing_takes}
 use Rattle.pylex_listing.proofs.Callers.{cut_lexed}
-use Rattle.pyunparse_text.specs.Spacing.{Piece, Line, is_token, touches, text_behind, spaced, stay_apart, are_two_points, all_apart}
+use Rattle.pyunparse_text.specs.Spacing.{Piece, Line, is_token, touches, text_following, spaced, stay_apart, are_two_points, all_apart}
 use Rattle.pyunparse_text.specs.Spacing.{are_readable}
 use Rattle.pyunparse_text.specs.Spacing.{line_text, lines_text}
-use Rattle.pyunparse_text.specs.Inner.Relexed.{lexeme_of, blanks, feed, lexemes_behind, lexemes_of, indent_lexemes, line_lexemes}
+use Rattle.pyunparse_text.specs.Inner.Relexed.{lexeme_of, blanks, feed, lexemes_after, lexemes_of, indent_lexemes, line_lexemes}
 use Rattle.pyunparse_text.specs.Inner.Relexed.{lines_lexemes}
 use Rattle.pyunparse_text.proofs.LexemeFronts.Fronts.{blanks_front, feed_front}
-use Rattle.pyunparse_text.proofs.LexemeFronts.PieceFronts.{IsPiece, ArePieces, token_front, token_no_blank, clear_behind}
+use Rattle.pyunparse_text.proofs.LexemeFronts.PieceFronts.{IsPiece, ArePieces, token_front, token_no_blank, clear_after}
 
 -- a lexeme before others
 before : (x : Lexeme) (t r : List ℕ) (xs : List Lexeme) (left : List ℕ) → x.text ≡ t → lexeme_at (t ++ r) ≡ Some x → AreLexemes r xs left
@@ -28,30 +28,30 @@ before x t r xs left e h a = (r, h, ap (λ u. u ++ r) (sym e), a)
 -- a piece, and what stands after it in its line
 piece_before : (q : Piece) (qs : List Piece) (more : List ℕ) (ys : List Lexeme) (left : List ℕ) → IsPiece q
     → ArePieces qs → all_apart q qs ≡ true
-    → AreLexemes (text_behind q qs ++ 10 ∷ more) ys left → AreLexemes ((q.text ++ text_behind q qs) ++ 10 ∷ more) (lexeme_of q ∷ ys) left
+    → AreLexemes (text_following q qs ++ 10 ∷ more) ys left → AreLexemes ((q.text ++ text_following q qs) ++ 10 ∷ more) (lexeme_of q ∷ ys) left
 piece_before q qs more ys left e a h l =
-    subst (λ (u : List ℕ). AreLexemes u (lexeme_of q ∷ ys) left) (sym (append_assoc q.text (text_behind q qs) (10 ∷ more)))
-    (before (lexeme_of q) q.text (text_behind q qs ++ 10 ∷ more) ys left refl (token_front q.kind q.text (text_behind q qs ++ 10 ∷ more) e
-    (clear_behind q qs more e a h)) l)
+    subst (λ (u : List ℕ). AreLexemes u (lexeme_of q ∷ ys) left) (sym (append_assoc q.text (text_following q qs) (10 ∷ more)))
+    (before (lexeme_of q) q.text (text_following q qs ++ 10 ∷ more) ys left refl (token_front q.kind q.text (text_following q qs ++ 10 ∷ more) e
+    (clear_after q qs more e a h)) l)
 
 no_blank_first : (q : Piece) (qs : List Piece) (more : List ℕ) → IsPiece q
-    → begins is_blank_char ((q.text ++ text_behind q qs) ++ 10 ∷ more) ≡ false
+    → begins is_blank_char ((q.text ++ text_following q qs) ++ 10 ∷ more) ≡ false
 no_blank_first q qs more e =
-    subst (λ (u : List ℕ). begins is_blank_char u ≡ false) (sym (append_assoc q.text (text_behind q qs) (10 ∷ more)))
-    (token_no_blank q.kind q.text (text_behind q qs ++ 10 ∷ more) e)
+    subst (λ (u : List ℕ). begins is_blank_char u ≡ false) (sym (append_assoc q.text (text_following q qs) (10 ∷ more)))
+    (token_no_blank q.kind q.text (text_following q qs ++ 10 ∷ more) e)
 
-pub behind_lexed : (p : Piece) (qs : List Piece) (more : List ℕ) (xs : List Lexeme) (left : List ℕ) → ArePieces qs → all_apart p qs ≡ true
-    → AreLexemes more xs left → AreLexemes (text_behind p qs ++ 10 ∷ more) (lexemes_behind p qs ++ feed ∷ xs) left
-behind_lexed p [] more xs left a h l = before feed (10 ∷ []) more xs left refl (feed_front more) l
-behind_lexed p (q ∷ qs) more xs left a h l =
+pub after_lexed : (p : Piece) (qs : List Piece) (more : List ℕ) (xs : List Lexeme) (left : List ℕ) → ArePieces qs → all_apart p qs ≡ true
+    → AreLexemes more xs left → AreLexemes (text_following p qs ++ 10 ∷ more) (lexemes_after p qs ++ feed ∷ xs) left
+after_lexed p [] more xs left a h l = before feed (10 ∷ []) more xs left refl (feed_front more) l
+after_lexed p (q ∷ qs) more xs left a h l =
     let i = and_parts (is_token q.kind q.text) (list_all (λ r. is_token r.kind r.text) qs) a in
     let j = and_parts (not (touches p q) || (stay_apart p q || are_two_points p q qs)) (all_apart q qs) h in
-    let k = piece_before q qs more (lexemes_behind q qs ++ feed ∷ xs) left i.0 i.1 j.1 (behind_lexed q qs more xs left i.1 j.1 l) in
+    let k = piece_before q qs more (lexemes_after q qs ++ feed ∷ xs) left i.0 i.1 j.1 (after_lexed q qs more xs left i.1 j.1 l) in
     ⊎_elim
     (λ (t : touches p q ≡ true). rw t k)
-    (λ (t : touches p q ≡ false). rw t (before (blanks (32 ∷ [])) (32 ∷ []) ((q.text ++ text_behind q qs) ++ 10 ∷ more)
-    (lexeme_of q ∷ (lexemes_behind q qs ++ feed ∷ xs)) left refl (blanks_front (32 ∷ [])
-    ((q.text ++ text_behind q qs) ++ 10 ∷ more) refl refl (no_blank_first q qs more i.0)) k))
+    (λ (t : touches p q ≡ false). rw t (before (blanks (32 ∷ [])) (32 ∷ []) ((q.text ++ text_following q qs) ++ 10 ∷ more)
+    (lexeme_of q ∷ (lexemes_after q qs ++ feed ∷ xs)) left refl (blanks_front (32 ∷ [])
+    ((q.text ++ text_following q qs) ++ 10 ∷ more) refl refl (no_blank_first q qs more i.0)) k))
     (cases_Bool (touches p q))
 
 -- The pieces of a line
@@ -61,7 +61,7 @@ pieces_lexed [] more xs left r l = cc
 pieces_lexed (p ∷ ps) more xs left r l =
     let i = and_parts (list_all (λ q. is_token q.kind q.text) (p ∷ ps)) (all_apart p ps) r in
     let j = and_parts (is_token p.kind p.text) (list_all (λ q. is_token q.kind q.text) ps) i.0 in
-    piece_before p ps more (lexemes_behind p ps ++ feed ∷ xs) left j.0 j.1 i.1 (behind_lexed p ps more xs left j.1 i.1 l)
+    piece_before p ps more (lexemes_after p ps ++ feed ∷ xs) left j.0 j.1 i.1 (after_lexed p ps more xs left j.1 i.1 l)
 
 first_no_blank : (ps : List Piece) (more : List ℕ) → are_readable ps ≡ true → begins is_blank_char (spaced ps ++ 10 ∷ more) ≡ false
 first_no_blank [] more r = cc

@@ -1,4 +1,4 @@
--- A number at the front of a text: what stands behind it, where no name and no point goes on,
+-- A number at the front of a text: what stands after it, where no name and no point goes on,
 -- changes no length that a reader of numbers takes.
 --
 -- Carries: number_front, for PieceFronts. On: NumberParts, Fronts, Cases.
@@ -59,7 +59,7 @@ octal_continues c e = word_continues c (grind (arith, nat_tests))
 zero_continues : Continue is_zero
 zero_continues c e = digit_continues c (zero_digit c e)
 
--- ---- Behind a text.
+-- ---- After a text.
 
 -- no name and no point goes on
 record Ends (r : List ℕ) : Type 0 where
@@ -123,7 +123,7 @@ j_front : (t r : List ℕ) → Ends r → j_len (t ++ r) ≡ j_len t
 unfolding j_len
 j_front t r n = rw (begins_front is_j t r (two_continue 106 74 refl refl) n) refl
 
--- An `e` at the end would take a sign behind it, but isn't taken itself.
+-- An `e` at the end would take a sign after it, but isn't taken itself.
 exponent_front : (t r : List ℕ) → Ends r → exponent_len t + j_len (drop (exponent_len t) t) ≡ length t
     → exponent_len (t ++ r) ≡ exponent_len t
 unfolding exponent_len j_len

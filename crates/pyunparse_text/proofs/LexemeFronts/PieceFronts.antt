@@ -25,7 +25,7 @@ use Rattle.pylex_lexeme.specs.Lexemes.{lexeme_at, is_name}
 use Rattle.pylex_lexeme.proofs.Callers.Lexemes.{words, heads, by_words, no_head, no_operator, no_operator_none}
 use Rattle.pylex_lexeme.proofs.Callers.Numbers.{digit_bounds}
 use Rattle.pylex_lexeme.proofs.Callers.WholeLines.{one_of}
-use Rattle.pyunparse_text.specs.Spacing.{Piece, is_token, is_number_kind, is_operator_kind, touches, text_behind, begins_operator}
+use Rattle.pyunparse_text.specs.Spacing.{Piece, is_token, is_number_kind, is_operator_kind, touches, text_following, begins_operator}
 use Rattle.pyunparse_text.specs.Spacing.{stay_apart}
 use Rattle.pyunparse_text.specs.Spacing.{are_two_points, all_apart}
 use Rattle.pyunparse_text.specs.Inner.Relexed.{class_of}
@@ -233,10 +233,10 @@ sign_head l c u e h = operator_head c u (operator_only l (c ∷ u) h e)
 head_eq : (c o : ℕ) → bytes_eq (c ∷ []) (o ∷ []) ≡ (c == o)
 head_eq c o = ⊎_elim (λ (h : (c == o) ≡ true). rw h refl) (λ (h : (c == o) ≡ false). rw h refl) (cases_Bool (c == o))
 
-no_number_behind : (t r : List ℕ) (l : Kind) (c : ℕ) (u : List ℕ) → is_token l (c ∷ u) ≡ true
+no_number_after : (t r : List ℕ) (l : Kind) (c : ℕ) (u : List ℕ) → is_token l (c ∷ u) ≡ true
     → (bytes_eq t (46 ∷ []) && is_number_kind l) ≡ false
     → makes_number t (c ∷ r) ≡ false
-no_number_behind t r l c u e n =
+no_number_after t r l c u e n =
     ⊎_elim
     (λ (h : is_number_kind l ≡ true). let f : (bytes_eq t (46 ∷ []) && true) ≡ false =
     subst (λ (b : Bool). (bytes_eq t (46 ∷ []) && b) ≡ false) h n in first (bytes_eq t (46 ∷ [])) (is_decimal_digit c) f)
@@ -264,7 +264,7 @@ clear_close kinds.String l t (c ∷ u) r p =
 clear_close kinds.Op l t (c ∷ u) r p =
     let q = and_parts (not (begins_operator (t ++ c ∷ []))) (not (bytes_eq t (46 ∷ []) && is_number_kind l)) p.apart in (
       none_longer t (u ++ r) c (not-true (begins_operator (t ++ c ∷ [])) q.0),
-      no_number_behind t (u ++ r) l c u p.right (not-true (bytes_eq t (46 ∷ []) && is_number_kind l) q.1),
+      no_number_after t (u ++ r) l c u p.right (not-true (bytes_eq t (46 ∷ []) && is_number_kind l) q.1),
     )
 clear_close kinds.Encoding l t (c ∷ u) r p = tt
 clear_close kinds.Comment l t (c ∷ u) r p = tt
@@ -339,14 +339,14 @@ abbrev pub ArePieces : List Piece → Type 0
 ArePieces qs = list_all (λ r. is_token r.kind r.text) qs ≡ true
 
 third_off : (p q : Piece) (qs : List Piece) (more : List ℕ) → ArePieces qs → Points p q qs
-    → begins (λ c. c == 46) (text_behind q qs ++ 10 ∷ more) ≡ false
+    → begins (λ c. c == 46) (text_following q qs ++ 10 ∷ more) ≡ false
 third_off p q [] more a h = refl
 third_off p q (r ∷ rs) more a h =
     ⊎_elim
     (λ (t : touches q r ≡ true).
     let i = and_parts (is_token r.kind r.text) (list_all (λ r. is_token r.kind r.text) rs) a in
-    rw t (subst (λ (u : List ℕ). begins (λ c. c == 46) u ≡ false) (sym (append_assoc r.text (text_behind r rs) (10 ∷ more)))
-    (head r.kind r.text (text_behind r rs ++ 10 ∷ more) i.0 (h.third r rs refl t))))
+    rw t (subst (λ (u : List ℕ). begins (λ c. c == 46) u ≡ false) (sym (append_assoc r.text (text_following r rs) (10 ∷ more)))
+    (head r.kind r.text (text_following r rs ++ 10 ∷ more) i.0 (h.third r rs refl t))))
     (λ (t : touches q r ≡ false). rw t refl)
     (cases_Bool (touches q r))
   where
@@ -361,21 +361,21 @@ clear_third p q r e f g h =
     subst (λ (t : List ℕ). Clear p.kind t (q.text ++ r)) (sym f)
     (subst (λ (u : List ℕ). Clear p.kind (46 ∷ []) (u ++ r)) (sym g) (clear_points p.kind r i h))
 
-pub clear_behind : (p : Piece) (qs : List Piece) (more : List ℕ) → IsPiece p → ArePieces qs → all_apart p qs ≡ true
-    → Clear p.kind p.text (text_behind p qs ++ 10 ∷ more)
-clear_behind p [] more e a h = clear_gap p.kind p.text more 10 e feed_gap
-clear_behind p (q ∷ qs) more e a h =
+pub clear_after : (p : Piece) (qs : List Piece) (more : List ℕ) → IsPiece p → ArePieces qs → all_apart p qs ≡ true
+    → Clear p.kind p.text (text_following p qs ++ 10 ∷ more)
+clear_after p [] more e a h = clear_gap p.kind p.text more 10 e feed_gap
+clear_after p (q ∷ qs) more e a h =
     let i = and_parts (is_token q.kind q.text) (list_all (λ r. is_token r.kind r.text) qs) a in
     let j = and_parts (not (touches p q) || (stay_apart p q || are_two_points p q qs)) (all_apart q qs) h in
     ⊎_elim
     (λ (t : touches p q ≡ true).
     let s : (stay_apart p q || are_two_points p q qs) ≡ true = rw t at j.0 in
-    rw t (subst (λ (u : List ℕ). Clear p.kind p.text u) (sym (append_assoc q.text (text_behind q qs) (10 ∷ more)))
+    rw t (subst (λ (u : List ℕ). Clear p.kind p.text u) (sym (append_assoc q.text (text_following q qs) (10 ∷ more)))
     (⊎_elim
-    (λ (c : stay_apart p q ≡ true). clear_close p.kind q.kind p.text q.text (text_behind q qs ++ 10 ∷ more)
+    (λ (c : stay_apart p q ≡ true). clear_close p.kind q.kind p.text q.text (text_following q qs ++ 10 ∷ more)
     (record { left = e; right = i.0; apart = c }))
-    (λ (c : are_two_points p q qs ≡ true). let x = points_of p q qs c in clear_third p q (text_behind q qs ++ 10 ∷ more) e x.first x.second
+    (λ (c : are_two_points p q qs ≡ true). let x = points_of p q qs c in clear_third p q (text_following q qs ++ 10 ∷ more) e x.first x.second
     (third_off p q qs more i.1 x))
     (or_cases (stay_apart p q) (are_two_points p q qs) s))))
-    (λ (t : touches p q ≡ false). rw t (clear_gap p.kind p.text ((q.text ++ text_behind q qs) ++ 10 ∷ more) 32 e blank_gap))
+    (λ (t : touches p q ≡ false). rw t (clear_gap p.kind p.text ((q.text ++ text_following q qs) ++ 10 ∷ more) 32 e blank_gap))
     (cases_Bool (touches p q))

@@ -80,15 +80,15 @@ pub units_slash : (b : ℕ) (t : List ℕ) → (b == 13) ≡ false → units (92
 units_slash b [] e = refl
 units_slash b (c ∷ t) e = rw e refl
 
-abbrev Behind : ℕ → List ℕ → List ℕ → Type 0
-Behind q r t = list_all is_comment_part t ≡ true → ends_by_one q (units t) ≡ true → single_of q (units (t ++ r)) ≡ length t
+abbrev Following : ℕ → List ℕ → List ℕ → Type 0
+Following q r t = list_all is_comment_part t ≡ true → ends_by_one q (units t) ≡ true → single_of q (units (t ++ r)) ≡ length t
 
 longer_by : (q n : ℕ) (t : List ℕ) → ends_by_one q (units t) ≡ true → shift n (length t) ≡ n + length t
 longer_by q n [] e = cc
 longer_by q n (b ∷ t) e = refl
 
-behind_plain : (q c : ℕ) (t r : List ℕ) → (c == 92) ≡ false → Behind q r t → Behind q r (c ∷ t)
-behind_plain q c t r h f a e =
+following_plain : (q c : ℕ) (t r : List ℕ) → (c == 92) ≡ false → Following q r t → Following q r (c ∷ t)
+following_plain q c t r h f a e =
     let p = and_parts (is_comment_part c) (list_all is_comment_part t) a in
     let g : ends_by_one q ((c ∷ []) ∷ units t) ≡ true = subst (λ (u : List (List ℕ)). ends_by_one q u ≡ true) (units_plain c t h) e in
     ap (single_of q) (units_plain c (t ++ r) h)
@@ -108,8 +108,8 @@ behind_plain q c t r h f a e =
     nothing [] z = refl
     nothing (d ∷ t) z = cc
 
-behind_slash : (q b : ℕ) (t r : List ℕ) → IsQuote q → Behind q r t → Behind q r (92 ∷ b ∷ t)
-behind_slash q b t r k f a e =
+after_slash : (q b : ℕ) (t r : List ℕ) → IsQuote q → Following q r t → Following q r (92 ∷ b ∷ t)
+after_slash q b t r k f a e =
     let p1 = and_parts (is_comment_part b) (list_all is_comment_part t) a in
     let p2 = and_parts (not (b == 10)) (not (b == 13)) p1.0 in
     let n = not-true (b == 13) p2.1 in
@@ -119,21 +119,21 @@ behind_slash q b t r k f a e =
     let m : 2 + length t ≡ suc (suc (length t)) = omega arith in
     ap (single_of q) (units_slash b (t ++ r) n) ∙ rw u (ap (shift 2) (f p1.1 h) ∙ longer_by q 2 t h ∙ m)
 
-slash_alone : (q : ℕ) (r : List ℕ) → IsQuote q → Behind q r (92 ∷ [])
+slash_alone : (q : ℕ) (r : List ℕ) → IsQuote q → Following q r (92 ∷ [])
 slash_alone q r k a e = let n = unit_slash q 92 [] k.slash refl in let z : false ≡ true = rw n at e in cc
 
-pub single_behind : (q : ℕ) → IsQuote q → (t r : List ℕ) → Behind q r t
-single_behind q k [] r = λ a e. cc
-single_behind q k (c ∷ []) r =
+pub single_following : (q : ℕ) → IsQuote q → (t r : List ℕ) → Following q r t
+single_following q k [] r = λ a e. cc
+single_following q k (c ∷ []) r =
     ⊎_elim
-    (λ (h : (c == 92) ≡ true). subst (λ (x : ℕ). Behind q r (x ∷ [])) (sym (eqb-true c 92 h)) (slash_alone q r k))
-    (λ (h : (c == 92) ≡ false). behind_plain q c [] r h (λ a e. cc))
+    (λ (h : (c == 92) ≡ true). subst (λ (x : ℕ). Following q r (x ∷ [])) (sym (eqb-true c 92 h)) (slash_alone q r k))
+    (λ (h : (c == 92) ≡ false). following_plain q c [] r h (λ a e. cc))
     (cases_Bool (c == 92))
-single_behind q k (c ∷ b ∷ t) r =
+single_following q k (c ∷ b ∷ t) r =
     ⊎_elim
-    (λ (h : (c == 92) ≡ true). subst (λ (x : ℕ). Behind q r (x ∷ b ∷ t)) (sym (eqb-true c 92 h))
-    (behind_slash q b t r k (single_behind q k t r)))
-    (λ (h : (c == 92) ≡ false). behind_plain q c (b ∷ t) r h (single_behind q k (b ∷ t) r))
+    (λ (h : (c == 92) ≡ true). subst (λ (x : ℕ). Following q r (x ∷ b ∷ t)) (sym (eqb-true c 92 h))
+    (after_slash q b t r k (single_following q k t r)))
+    (λ (h : (c == 92) ≡ false). following_plain q c (b ∷ t) r h (single_following q k (b ∷ t) r))
     (cases_Bool (c == 92))
 
 -- no three quotes stand at a literal in one quote, nor where a quote doesn't follow it
@@ -168,12 +168,12 @@ no_three q k (c ∷ t) r e b =
     last (d ∷ t) z = cc
 
 -- what is read from its quote on
-quoted_behind : (q : ℕ) → IsQuote q → (t r : List ℕ) → list_all is_comment_part t ≡ true → ends_by_one q (units t) ≡ true
+quoted_after : (q : ℕ) → IsQuote q → (t r : List ℕ) → list_all is_comment_part t ≡ true → ends_by_one q (units t) ≡ true
     → begins (λ c. c == q) r ≡ false → quoted_len q (q ∷ t ++ r) ≡ length (q ∷ t)
 unfolding quoted_len single_len
-quoted_behind q k t r a e b =
+quoted_after q k t r a e b =
     let n = no_three q k t r e b in
-    let s = single_behind q k t r a e in
+    let s = single_following q k t r a e in
     let l = longer_by q 1 t e in
     let m : 1 + length t ≡ suc (length t) = omega arith in
     rw (n, s) (l ∙ m)
@@ -202,7 +202,7 @@ literal_front q a t r w p c e b =
     let o : Opens (length a) cs =
     record { small = prefix_short a p; «prefix» = ap is_prefix f ∙ p; quote = ap begins_quote d ∙ begins_which q (t ++ r) w } in
     let l : quoted_len q (drop (length a) cs) ≡ suc (length t) = ap (quoted_len q) d
-    ∙ quoted_behind q (quote_of q w) t r c e (no_quote_of q r w b) in
+    ∙ quoted_after q (quote_of q w) t r c e (no_quote_of q r w b) in
     let m : longest (counts_as_string cs) cs ≡ length a + suc (length t) =
     longest_reads (counts_as_string cs) cs (shift (length a) (quoted_len q (drop (length a) cs)))
     (string_reads q (length a) cs (t ++ r) w o d)
@@ -211,9 +211,9 @@ literal_front q a t r w p c e b =
     let n : longest (counts_as_string cs) cs ≡ length (a ++ q ∷ t) = m ∙ sym (length-append a (q ∷ t)) in
     is_lexeme (a ++ q ∷ t) r String (leaves (a ++ q ∷ t) r String (longest (counts_as_string cs) cs) n k)
 
-all_behind : (a t : List ℕ) → list_all is_comment_part (a ++ t) ≡ true → list_all is_comment_part t ≡ true
-all_behind [] t e = e
-all_behind (c ∷ a) t e = all_behind a t (and_parts (is_comment_part c) (list_all is_comment_part (a ++ t)) e).1
+all_after : (a t : List ℕ) → list_all is_comment_part (a ++ t) ≡ true → list_all is_comment_part t ≡ true
+all_after [] t e = e
+all_after (c ∷ a) t e = all_after a t (and_parts (is_comment_part c) (list_all is_comment_part (a ++ t)) e).1
 
 single_front : (q : ℕ) (a b r : List ℕ) → Which q → is_prefix a ≡ true → list_all is_comment_part (a ++ b) ≡ true → is_single q b ≡ true
     → begins_quote r ≡ false → lexeme_at ((a ++ b) ++ r) ≡ Some (record { «class» = String; text = a ++ b })
@@ -222,7 +222,7 @@ single_front q a [] r w p c e b = cc
 single_front q a (x ∷ t) r w p c e b =
     let s = and_parts (x == q) (ends_by_one q (units t)) e in
     let f : x ≡ q = eqb-true x q s.0 in
-    let d = and_parts (is_comment_part x) (list_all is_comment_part t) (all_behind a (x ∷ t) c) in
+    let d = and_parts (is_comment_part x) (list_all is_comment_part t) (all_after a (x ∷ t) c) in
     subst (λ (y : ℕ). lexeme_at ((a ++ y ∷ t) ++ r) ≡ Some (record { «class» = String; text = a ++ y ∷ t })) (sym f)
     (literal_front q a t r w p d.1 s.1 b)
 

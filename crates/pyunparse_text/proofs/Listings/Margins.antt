@@ -19,8 +19,8 @@ use Rattle.pylex_lexeme.specs.Chars.{begins, bytes_in, is_blank_char}
 use Rattle.pylex_lexeme.specs.Cuts.{begins_significant}
 use Rattle.pylex_listing.specs.Indentation.{width_from}
 use Rattle.pylex_listing.specs.Margins.{width_by_one, blanks_of, widths_of}
-use Rattle.pytoken.specs.Indentation.{Margin, behind_offset, margin_at, ends_line, margins_from}
-use Rattle.pyunparse_text.specs.Spacing.{Piece, Line, is_token, text_behind, spaced, are_readable, lines_text}
+use Rattle.pytoken.specs.Indentation.{Margin, following_offset, margin_at, ends_line, margins_from}
+use Rattle.pyunparse_text.specs.Spacing.{Piece, Line, is_token, text_following, spaced, are_readable, lines_text}
 use Rattle.pyunparse_text.specs.Tokens.{is_written, is_even}
 use Rattle.pyunparse_text.specs.Inner.Even.{ends_evenly}
 use Rattle.pyunparse_text.proofs.LexemeFronts.PieceFronts.{token_no_blank}
@@ -57,8 +57,8 @@ pieces_unblank [] r e = cc
 pieces_unblank (p ∷ ps) r e =
     let a = and_parts (list_all (λ q. is_token q.kind q.text) (p ∷ ps)) _ e in
     let b = and_parts (is_token p.kind p.text) (list_all (λ q. is_token q.kind q.text) ps) a.0 in
-    subst (λ (t : List ℕ). begins is_blank_char t ≡ false) (sym (append_assoc p.text (text_behind p ps) r))
-    (token_no_blank p.kind p.text (text_behind p ps ++ r) b.0)
+    subst (λ (t : List ℕ). begins is_blank_char t ≡ false) (sym (append_assoc p.text (text_following p ps) r))
+    (token_no_blank p.kind p.text (text_following p ps ++ r) b.0)
 
 same : (n : ℕ) → (n == n) ≡ true
 same n = grind (arith, nat_tests)
@@ -81,8 +81,8 @@ lines_even (l ∷ ls) w s =
 
 -- ---- Margins.
 
-behind_is : (text a rest : List ℕ) (o : ℕ) → text ≡ a ++ rest → o ≡ bytes_in a → all_scalars rest ≡ true → behind_offset text o ≡ rest
-behind_is text a rest o w e s =
+after_is : (text a rest : List ℕ) (o : ℕ) → text ≡ a ++ rest → o ≡ bytes_in a → all_scalars rest ≡ true → following_offset text o ≡ rest
+after_is text a rest o w e s =
     let x : encode_utf8_all text ≡ encode_utf8_all a ++ encode_utf8_all rest = ap encode_utf8_all w ∙ encodes-append a rest in
     let d : drop o (encode_utf8_all text) ≡ encode_utf8_all rest =
     ap (λ y. drop o y) x ∙ ap (λ n. drop n (encode_utf8_all a ++ encode_utf8_all rest)) e
@@ -92,13 +92,13 @@ behind_is text a rest o w e s =
 pub margin_even : (text a rest : List ℕ) (o : ℕ) → text ≡ a ++ rest → o ≡ bytes_in a → Even rest
     → list_all is_even (margin_at text o) ≡ true
 margin_even text a rest o w e v =
-    let b : behind_offset text o ≡ rest = behind_is text a rest o w e v.scalars in
-    let f : (width_from 0 (blanks_of (behind_offset text o)) == width_by_one 0 (blanks_of (behind_offset text o))) ≡ true = rw b v.widths in
-    by (begins_significant (drop (length (blanks_of (behind_offset text o))) (behind_offset text o)))
+    let b : following_offset text o ≡ rest = after_is text a rest o w e v.scalars in
+    let f : (width_from 0 (blanks_of (following_offset text o)) == width_by_one 0 (blanks_of (following_offset text o))) ≡ true = rw b v.widths in
+    by (begins_significant (drop (length (blanks_of (following_offset text o))) (following_offset text o)))
     (record {
-      widths = widths_of (behind_offset text o);
+      widths = widths_of (following_offset text o);
       start =
-          place_at (encode_utf8_all text) (o + length (blanks_of (behind_offset text o)));
+          place_at (encode_utf8_all text) (o + length (blanks_of (following_offset text o)));
     }) f
   where
     by : (b : Bool) (m : Margin) → is_even m ≡ true → list_all is_even (cond b (m ∷ []) []) ≡ true

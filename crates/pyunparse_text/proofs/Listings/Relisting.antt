@@ -22,7 +22,7 @@ use Rattle.pylex_listing.specs.Machine.{mark_at}
 use Rattle.pylex_listing.proofs.Callers.{listing_is}
 use Rattle.pyunparse_text.specs.Spacing.{Line, are_readable, lines_text}
 use Rattle.pyunparse_text.specs.Inner.Relexed.{lines_lexemes}
-use Rattle.pyunparse_text.specs.Tokens.{dedent, end_marker, exact_in, tokens_behind, is_written, are_written, rise_by_one, is_even}
+use Rattle.pyunparse_text.specs.Tokens.{dedent, end_marker, exact_in, tokens_after, is_written, are_written, rise_by_one, is_even}
 use Rattle.pyunparse_text.specs.Tokens.{IsListedAs}
 use Rattle.pyunparse_text.proofs.LexemeFronts.LineCuts.{lines_cut, lines_end}
 use Rattle.pyunparse_text.proofs.Listings.Columns.{columns, columns_above}
@@ -106,7 +106,7 @@ remaining_is text xs c l = rw (c, l) refl
 -- The law: a source with the text of written lines, and no faulty line after it,
 -- is listed as their tokens.
 pub lines_listed : (s : Source) (ls : List Line) → s.text ≡ lines_text ls → s.fault ≡ None → are_written ls ≡ true
-    → IsListedAs s (tokens_behind 0 ls)
+    → IsListedAs s (tokens_after 0 ls)
 lines_listed s ls e f w =
     let a = and_parts (list_all is_written ls) (rise_by_one 0 ls) w in
     let r = readable ls a.0 in

@@ -21,13 +21,13 @@ use Rattle.pylex_lexeme.specs.Operators.{is_opener, is_closer, is_operator, exac
 use Rattle.pylex_lexeme.specs.Lexemes.{Lexeme}
 use Rattle.pylex_lexeme.specs.Chars.{bytes_in}
 use Rattle.pylex_listing.specs.Indentation.{width_from}
-use Rattle.pylex_listing.specs.Machine.{State, after, gives, run, stop_of, layout_of, entry_by, step_of, past, behind, pushed}
-use Rattle.pyunparse_text.specs.Spacing.{Piece, Line, is_token, is_operator_kind, touches, text_behind, spaced, are_readable, line_text}
+use Rattle.pylex_listing.specs.Machine.{State, after, gives, run, stop_of, layout_of, entry_by, step_of, past, following, pushed}
+use Rattle.pyunparse_text.specs.Spacing.{Piece, Line, is_token, is_operator_kind, touches, text_following, spaced, are_readable, line_text}
 use Rattle.pyunparse_text.specs.Spacing.{lines_text}
-use Rattle.pyunparse_text.specs.Inner.Relexed.{class_of, lexeme_of, blanks, feed, lexemes_behind, lexemes_of, indent_lexemes, line_lexemes}
+use Rattle.pyunparse_text.specs.Inner.Relexed.{class_of, lexeme_of, blanks, feed, lexemes_after, lexemes_of, indent_lexemes, line_lexemes}
 use Rattle.pyunparse_text.specs.Inner.Relexed.{lines_lexemes}
 use Rattle.pyunparse_text.specs.Tokens.{PlainToken, token_of, exact_in, newline, dedent, end_marker, level_tokens, line_tokens}
-use Rattle.pyunparse_text.specs.Tokens.{tokens_behind, opens, closes, closes_all, rise_by_one, is_written, is_opening, is_closing}
+use Rattle.pyunparse_text.specs.Tokens.{tokens_after, opens, closes, closes_all, rise_by_one, is_written, is_opening, is_closing}
 use Rattle.pyunparse_text.proofs.LexemeFronts.PieceFronts.{IsPiece, ArePieces}
 use Rattle.pyunparse_text.proofs.Listings.Columns.{columns, deeper, not_deeper, is_column, columns_above, columns_pushed}
 use Rattle.pyunparse_text.proofs.Listings.Tells.{Tells, bytes_both, nothing_told, tells_both, piece_told, marks_told}
@@ -273,7 +273,7 @@ blank_goes text s d n rest i = record {
 }
 
 -- the line end
-feed_gives : (s : State) → s.logical ≡ true → s.depth ≡ 0 → gives s feed ≡ step_of kinds.Newline None s.now (behind s.now (10 ∷ [])) ∷ []
+feed_gives : (s : State) → s.logical ≡ true → s.depth ≡ 0 → gives s feed ≡ step_of kinds.Newline None s.now (following s.now (10 ∷ [])) ∷ []
 unfolding gives entry_by is_operator
 feed_gives s l d = rw (l, d) refl
 
@@ -299,8 +299,8 @@ feed_runs : (text : List ℕ) (s : State) (n : ℕ) (rest : List ℕ) → Even r
     → Ran text s (feed ∷ []) (newline ∷ []) n rest
 feed_runs text s n rest v i = record {
   tells = subst (λ (ss : List Step). Tells text ss (newline ∷ [])) (sym (append-nil (gives s feed) ∙ feed_gives s i.logical i.depth))
-      (piece_told text i.before (10 ∷ []) rest kinds.Newline None s.now (behind s.now (10 ∷ [])) i.whole refl i.offset refl refl
-      (margin_even text (i.before ++ 10 ∷ []) rest (behind s.now (10 ∷ [])).offset (i.whole ∙ sym (append_assoc i.before (10 ∷ []) rest))
+      (piece_told text i.before (10 ∷ []) rest kinds.Newline None s.now (following s.now (10 ∷ [])) i.whole refl i.offset refl refl
+      (margin_even text (i.before ++ 10 ∷ []) rest (following s.now (10 ∷ [])).offset (i.whole ∙ sym (append_assoc i.before (10 ∷ []) rest))
       (ap (λ o. o + bytes_in (10 ∷ [])) i.offset ∙ sym (bytes_both i.before (10 ∷ []))) v));
   at = feed_after text s n rest i;
 }
@@ -317,30 +317,30 @@ then_runs text s p n ps rest more xs ts w r = record {
 }
 
 -- what stands after a piece of a line
-behind_runs : (text : List ℕ) (s : State) (d n : ℕ) (p : Piece) (qs : List Piece) (more : List ℕ) → Even more
-    → InLine text s d n (text_behind p qs ++ 10 ∷ more) → ArePieces qs → AreScalar qs → closes_all d qs ≡ true
-    → Ran text s (lexemes_behind p qs ++ feed ∷ []) (map token_of qs ++ newline ∷ []) n more
-behind_runs text s d n p [] more f i a u c =
+after_runs : (text : List ℕ) (s : State) (d n : ℕ) (p : Piece) (qs : List Piece) (more : List ℕ) → Even more
+    → InLine text s d n (text_following p qs ++ 10 ∷ more) → ArePieces qs → AreScalar qs → closes_all d qs ≡ true
+    → Ran text s (lexemes_after p qs ++ feed ∷ []) (map token_of qs ++ newline ∷ []) n more
+after_runs text s d n p [] more f i a u c =
     let z : d ≡ 0 = eqb-true d 0 c in
     feed_runs text s n more f (subst (λ (x : ℕ). InLine text s x n (10 ∷ more)) z i)
-behind_runs text s d n p (q ∷ qs) more f i a u c =
+after_runs text s d n p (q ∷ qs) more f i a u c =
     let e = and_parts (is_token q.kind q.text) (list_all (λ r. is_token r.kind r.text) qs) a in
     let v = and_parts (all_scalars q.text) (list_all (λ r. all_scalars r.text) qs) u in
     ⊎_elim
     (λ (t : touches p q ≡ true).
-    let j : InLine text s d n ((q.text ++ text_behind q qs) ++ 10 ∷ more) = rw t at i in
-    let w = goes text s d n q qs (text_behind q qs ++ 10 ∷ more) (again text s d n q qs more j) e.0 v.0 c in
-    rw t (then_runs text s q n qs (text_behind q qs ++ 10 ∷ more) more (lexemes_behind q qs ++ feed ∷ []) (map token_of qs ++ newline ∷ [])
-    w (behind_runs text (after s (lexeme_of q)) w.next n q qs more f w.at e.1 v.1 w.rest_closes)))
+    let j : InLine text s d n ((q.text ++ text_following q qs) ++ 10 ∷ more) = rw t at i in
+    let w = goes text s d n q qs (text_following q qs ++ 10 ∷ more) (again text s d n q qs more j) e.0 v.0 c in
+    rw t (then_runs text s q n qs (text_following q qs ++ 10 ∷ more) more (lexemes_after q qs ++ feed ∷ []) (map token_of qs ++ newline ∷ [])
+    w (after_runs text (after s (lexeme_of q)) w.next n q qs more f w.at e.1 v.1 w.rest_closes)))
     (λ (t : touches p q ≡ false).
-    let j : InLine text s d n (32 ∷ ((q.text ++ text_behind q qs) ++ 10 ∷ more)) = rw t at i in
-    let b = blank_goes text s d n ((q.text ++ text_behind q qs) ++ 10 ∷ more) j in
+    let j : InLine text s d n (32 ∷ ((q.text ++ text_following q qs) ++ 10 ∷ more)) = rw t at i in
+    let b = blank_goes text s d n ((q.text ++ text_following q qs) ++ 10 ∷ more) j in
     let r = after s (blanks (32 ∷ [])) in
-    let w = goes text r d n q qs (text_behind q qs ++ 10 ∷ more) (again text r d n q qs more b) e.0 v.0 c in
-    let g = then_runs text r q n qs (text_behind q qs ++ 10 ∷ more) more (lexemes_behind q qs ++ feed ∷ [])
-    (map token_of qs ++ newline ∷ []) w (behind_runs text (after r (lexeme_of q)) w.next n q qs more f w.at e.1 v.1 w.rest_closes) in
+    let w = goes text r d n q qs (text_following q qs ++ 10 ∷ more) (again text r d n q qs more b) e.0 v.0 c in
+    let g = then_runs text r q n qs (text_following q qs ++ 10 ∷ more) more (lexemes_after q qs ++ feed ∷ [])
+    (map token_of qs ++ newline ∷ []) w (after_runs text (after r (lexeme_of q)) w.next n q qs more f w.at e.1 v.1 w.rest_closes) in
     rw t (record {
-      tells = tells_both text (gives s (blanks (32 ∷ []))) (steps_on r (lexeme_of q ∷ (lexemes_behind q qs ++ feed ∷ []))) []
+      tells = tells_both text (gives s (blanks (32 ∷ []))) (steps_on r (lexeme_of q ∷ (lexemes_after q qs ++ feed ∷ []))) []
           (token_of q ∷ (map token_of qs ++ newline ∷ [])) (subst (λ (ss : List Step). Tells text ss []) (sym (blank_gives s (32 ∷ [])))
           (nothing_told text)) g.tells;
       at = g.at;
@@ -348,8 +348,8 @@ behind_runs text s d n p (q ∷ qs) more f i a u c =
     (cases_Bool (touches p q))
   where
     again : (text : List ℕ) (s : State) (d n : ℕ) (q : Piece) (qs : List Piece) (more : List ℕ)
-        → InLine text s d n ((q.text ++ text_behind q qs) ++ 10 ∷ more) → InLine text s d n (q.text ++ (text_behind q qs ++ 10 ∷ more))
-    again text s d n q qs more i = subst (InLine text s d n) (append_assoc q.text (text_behind q qs) (10 ∷ more)) i
+        → InLine text s d n ((q.text ++ text_following q qs) ++ 10 ∷ more) → InLine text s d n (q.text ++ (text_following q qs ++ 10 ∷ more))
+    again text s d n q qs more i = subst (InLine text s d n) (append_assoc q.text (text_following q qs) (10 ∷ more)) i
 
 blanks_scalar : (k : ℕ) → all_scalars (replicate k 32) ≡ true
 blanks_scalar zero = refl
@@ -460,14 +460,14 @@ pieces_run text s m n (p ∷ ps) more even i l r u c =
     let a = and_parts (list_all (λ q. is_token q.kind q.text) (p ∷ ps)) _ r in
     let e = and_parts (is_token p.kind p.text) (list_all (λ q. is_token q.kind q.text) ps) a.0 in
     let v = and_parts (all_scalars p.text) (list_all (λ q. all_scalars q.text) ps) u in
-    let j : AtMargin text s m n (p.text ++ (text_behind p ps ++ 10 ∷ more)) =
-    subst (AtMargin text s m n) (append_assoc p.text (text_behind p ps) (10 ∷ more)) i in
-    let f = first_goes text s m n p ps (text_behind p ps ++ 10 ∷ more) j l e.0 v.0 c in
-    let b = behind_runs text (after s (lexeme_of p)) f.next n p ps more even f.at e.1 v.1 f.rest_closes in
+    let j : AtMargin text s m n (p.text ++ (text_following p ps ++ 10 ∷ more)) =
+    subst (AtMargin text s m n) (append_assoc p.text (text_following p ps) (10 ∷ more)) i in
+    let f = first_goes text s m n p ps (text_following p ps ++ 10 ∷ more) j l e.0 v.0 c in
+    let b = after_runs text (after s (lexeme_of p)) f.next n p ps more even f.at e.1 v.1 f.rest_closes in
     record {
-      tells = subst (λ (ts : List PlainToken). Tells text (steps_on s (lexeme_of p ∷ (lexemes_behind p ps ++ feed ∷ []))) ts)
+      tells = subst (λ (ts : List PlainToken). Tells text (steps_on s (lexeme_of p ∷ (lexemes_after p ps ++ feed ∷ []))) ts)
           (append_assoc (level_tokens m n) (token_of p ∷ []) (map token_of ps ++ newline ∷ []))
-          (tells_both text (gives s (lexeme_of p)) (steps_on (after s (lexeme_of p)) (lexemes_behind p ps ++ feed ∷ []))
+          (tells_both text (gives s (lexeme_of p)) (steps_on (after s (lexeme_of p)) (lexemes_after p ps ++ feed ∷ []))
           (level_tokens m n ++ token_of p ∷ []) (map token_of ps ++ newline ∷ []) f.tells b.tells);
       at = b.at;
     }
@@ -498,7 +498,7 @@ pub record Done (text : List ℕ) (s : State) (m : ℕ) (ls : List Line) : Type 
   pub level : ℕ
   pub tells : Tells text (steps_on s (lines_lexemes ls)) tokens
   pub at : AtLine text (after_all s (lines_lexemes ls)) level []
-  pub whole : tokens ++ (replicate level dedent ++ end_marker ∷ []) ≡ tokens_behind m ls
+  pub whole : tokens ++ (replicate level dedent ++ end_marker ∷ []) ≡ tokens_after m ls
 
 pub lines_run : (text : List ℕ) (s : State) (m : ℕ) (ls : List Line) → AtLine text s m (lines_text ls) → list_all is_written ls ≡ true
     → rise_by_one m ls ≡ true → Done text s m ls

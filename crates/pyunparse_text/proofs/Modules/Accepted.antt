@@ -119,30 +119,30 @@ one_more most d ts ps more true s k =
 one_more most d ts ps more false true k = more (d - 1) k
 one_more most d ts ps more false false k = more d k
 
--- behind a token's terminals no fewer brackets are open than behind the token
+-- after a token's terminals no fewer brackets are open than after the token
 module _ (text : List ℕ) {ts : List Terminal} (most d : ℕ) (us : List Terminal) where
-  single_behind : (k : Kind) → terminal_of k text ∷ [] ≡ ts → most_open d (ts ++ us) ≤ most
+  single_following : (k : Kind) → terminal_of k text ∷ [] ≡ ts → most_open d (ts ++ us) ≤ most
       → most_open (by_text d (is_operator_kind k && is_opening text) (is_operator_kind k && is_closing text)) us ≤ most
-  single_behind k e h =
+  single_following k e h =
       let q : most_open d (terminal_of k text ∷ us) ≤ most = subst (λ z. most_open d (z ++ us) ≤ most) (sym e) h in
       subst (λ n. most_open n us ≤ most) (text_after k text d) (omega (arith, q))
 
-  behind : {extent : Extent} (k : Kind) → GivesAll extent k text ts → all_scalars text ≡ true → most_open d (ts ++ us) ≤ most
+  following : {extent : Extent} (k : Kind) → GivesAll extent k text ts → all_scalars text ≡ true → most_open d (ts ++ us) ≤ most
       → most_open (by_text d (is_operator_kind k && is_opening text) (is_operator_kind k && is_closing text)) us ≤ most
   unfolding terminals_by
-  behind kinds.String g s h =
+  following kinds.String g s h =
       let q : most_open d (terminals_of kinds.String text ++ us) ≤ most = subst (λ z. most_open d (z ++ us) ≤ most) (sym g.terminals) h in
       omega (arith, (string_closed text s g.sound).is d us, q)
-  behind kinds.Name g s h = single_behind kinds.Name g.terminals h
-  behind kinds.Number g s h = single_behind kinds.Number g.terminals h
-  behind kinds.Op g s h = single_behind kinds.Op g.terminals h
-  behind kinds.Newline g s h = single_behind kinds.Newline g.terminals h
-  behind kinds.Nl g s h = single_behind kinds.Nl g.terminals h
-  behind kinds.Indent g s h = single_behind kinds.Indent g.terminals h
-  behind kinds.Dedent g s h = single_behind kinds.Dedent g.terminals h
-  behind kinds.Comment g s h = single_behind kinds.Comment g.terminals h
-  behind kinds.Encoding g s h = single_behind kinds.Encoding g.terminals h
-  behind kinds.EndMarker g s h = single_behind kinds.EndMarker g.terminals h
+  following kinds.Name g s h = single_following kinds.Name g.terminals h
+  following kinds.Number g s h = single_following kinds.Number g.terminals h
+  following kinds.Op g s h = single_following kinds.Op g.terminals h
+  following kinds.Newline g s h = single_following kinds.Newline g.terminals h
+  following kinds.Nl g s h = single_following kinds.Nl g.terminals h
+  following kinds.Indent g s h = single_following kinds.Indent g.terminals h
+  following kinds.Dedent g s h = single_following kinds.Dedent g.terminals h
+  following kinds.Comment g s h = single_following kinds.Comment g.terminals h
+  following kinds.Encoding g s h = single_following kinds.Encoding g.terminals h
+  following kinds.EndMarker g s h = single_following kinds.EndMarker g.terminals h
 
 shallow : {extent : Extent} (most d : ℕ) {ps : List Piece} {ts : List Terminal} → Give extent ps ts
     → list_all (λ (p : Piece). all_scalars p.text) ps ≡ true → most_open d ts ≤ most
@@ -150,7 +150,7 @@ shallow : {extent : Extent} (most d : ℕ) {ps : List Piece} {ts : List Terminal
 shallow most d give_none s h = refl
 shallow most d (give {p = p} {ps = ps} {us = us} g c) s h =
     let w = and_parts (all_scalars p.text) (list_all (λ (q : Piece). all_scalars q.text) ps) s in
-    one_more most d us ps (λ n q. shallow most n c w.1 q) (opens p) (closes p) (behind p.text most d us p.kind g w.0 h)
+    one_more most d us ps (λ n q. shallow most n c w.1 q) (opens p) (closes p) (following p.text most d us p.kind g w.0 h)
 
 faultless : {extent : Extent} {ps : List Piece} {ts : List Terminal} → Give extent ps ts
     → All (λ (p : Piece). fault_of extent p.kind p.text ≡ None) ps

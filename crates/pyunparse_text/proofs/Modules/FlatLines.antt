@@ -49,10 +49,10 @@ perhaps_flat : (l : Level) (e : Option Expr) → ((e : Expr) → Flat (height e)
 perhaps_flat l None f = flat_none 0
 perhaps_flat l (Some e) f = f e
 
-behind_flat : (t : Terminal) (l : Level) (e : Option Expr) → Neutral t → ((e : Expr) → Flat (height e) (written terminal l e))
-    → Flat (option_height e) (S.behind terminal t l e)
-behind_flat t l None k f = flat_none 0
-behind_flat t l (Some e) k f = plain k (f e)
+after_flat : (t : Terminal) (l : Level) (e : Option Expr) → Neutral t → ((e : Expr) → Flat (height e) (written terminal l e))
+    → Flat (option_height e) (S.following terminal t l e)
+after_flat t l None k f = flat_none 0
+after_flat t l (Some e) k f = plain k (f e)
 
 as_flat : (x : Option Identifier) → Flat 0 (S.as_name terminal x)
 as_flat None = flat_none 0
@@ -63,7 +63,7 @@ async_flat false f = f
 async_flat true f = plain (λ d. refl) f
 
 param_flat : (p : TypeParam) → Flat (type_param_height p) (S.type_param terminal p)
-param_flat (TypeVar x bound) = plain (λ d. refl) (behind_flat (Op Colon) Expression bound (λ d. refl) (λ e. flat Expression refl e))
+param_flat (TypeVar x bound) = plain (λ d. refl) (after_flat (Op Colon) Expression bound (λ d. refl) (λ e. flat Expression refl e))
 param_flat (TypeVarTuple x) = plain (λ d. refl) (plain (λ d. refl) (flat_none 0))
 param_flat (ParamSpec x) = plain (λ d. refl) (plain (λ d. refl) (flat_none 0))
 
@@ -152,7 +152,7 @@ simple_flat (Trees.AugAssign t o e) =
 simple_flat (Trees.AnnAssign t a v b) =
     both (up (annotated_flat t b) (omega arith))
     (plain (λ d. refl) (both (up (flat Expression refl a) (omega arith))
-    (up (behind_flat (Op Equal) Value v (λ d. refl) (λ e. flat Value refl e)) (omega arith))))
+    (up (after_flat (Op Equal) Value v (λ d. refl) (λ e. flat Value refl e)) (omega arith))))
 simple_flat (Trees.TypeAlias t ps e) =
     plain (λ d. refl)
     (both (up (flat Primary refl t) (omega arith))
@@ -161,11 +161,11 @@ simple_flat (Trees.Return e) = plain (λ d. refl) (up (perhaps_flat Stars e (λ 
 simple_flat (Trees.Raise e c) =
     plain (λ d. refl)
     (both (up (perhaps_flat Expression e (λ e. flat Expression refl e)) (omega arith))
-    (up (behind_flat (Word Key.From) Expression c (λ d. refl) (λ e. flat Expression refl e)) (omega arith)))
+    (up (after_flat (Word Key.From) Expression c (λ d. refl) (λ e. flat Expression refl e)) (omega arith)))
 simple_flat (Trees.Assert e m) =
     plain (λ d. refl)
     (both (up (flat Expression refl e) (omega arith))
-    (up (behind_flat (Op Comma) Expression m (λ d. refl) (λ e. flat Expression refl e)) (omega arith)))
+    (up (after_flat (Op Comma) Expression m (λ d. refl) (λ e. flat Expression refl e)) (omega arith)))
 simple_flat (Trees.Delete es) = plain (λ d. refl) (listed_flat (all_up (flat_each Expression refl (exprs es)) (omega arith)))
 simple_flat (Trees.Global xs) = plain (λ d. refl) (listed_flat (all_up (names_flat xs) (omega arith)))
 simple_flat (Trees.Nonlocal xs) = plain (λ d. refl) (listed_flat (all_up (names_flat xs) (omega arith)))
@@ -230,14 +230,14 @@ header_flat finally_header = plain (λ d. refl) (flat_none (0 + 1))
 header_flat (def_header (function_head b x ps a r)) =
     async_flat b (plain (λ d. refl) (plain (λ d. refl) (both (up (types_flat ps) (omega arith))
     (both (up (pair open_round close_round (listed_flat (flat_parameters a))) (omega arith))
-    (up (behind_flat (Op RArrow) Expression r (λ d. refl) (λ e. flat Expression refl e)) (omega arith))))))
+    (up (after_flat (Op RArrow) Expression r (λ d. refl) (λ e. flat Expression refl e)) (omega arith))))))
 header_flat (def_header (class_head x ps es ks)) =
     plain (λ d. refl) (plain (λ d. refl) (both (up (types_flat ps) (omega arith)) (up (bases_flat es ks) (omega arith))))
 header_flat (match_header e) = plain (λ d. refl) (up (flat Subject refl e) (omega arith))
 header_flat (case_header p g) =
     plain (λ d. refl)
     (both (up (flat_pattern Patterns p) (omega arith))
-    (up (behind_flat (Word Key.If) Named g (λ d. refl) (λ e. flat Named refl e)) (omega arith)))
+    (up (after_flat (Word Key.If) Named g (λ d. refl) (λ e. flat Named refl e)) (omega arith)))
 
 -- ---- Lines.
 

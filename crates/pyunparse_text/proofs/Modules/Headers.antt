@@ -15,7 +15,7 @@ use Rattle.pyunparse_text.specs.Written.{bracketed, listed, each, by_name, param
 use Rattle.pyunparse_text.specs.Terminals.{terminal}
 use Rattle.pyunparse_text.specs.Statements as S
 use Rattle.pyunparse_text.proofs.Fewest.Places.{parameters_law, bases_law}
-use Rattle.pyunparse_text.proofs.Modules.Parts.{again, behind_again, as_again, type_params_again}
+use Rattle.pyunparse_text.proofs.Modules.Parts.{again, after_again, as_again, type_params_again}
 use Rattle.pyunparse_text.proofs.Modules.Simple.{target_again}
 
 async_again : {ts : List Terminal} {b : Bool} → F.Async ts b → F.Async (S.async terminal b) b
@@ -75,10 +75,10 @@ module _ (items_again : ItemsAgain) {profile : Profile} where
   header_again (F.except_star p q) = F.except_star (again p) (as_again q)
   header_again (F.def_line {b = b} x {tps = tps} {a = a} {r = r} y t c h q) =
       let ps : List Terminal = listed terminal (parameters terminal a) in
-      let rest : List Terminal = S.behind terminal (Op RArrow) Expression r in
+      let rest : List Terminal = S.following terminal (Op RArrow) Expression r in
       subst
       (λ z. F.HeaderOf profile (S.async terminal b ++ (Word Key.Def ∷ (in_form x.form ∷ (S.type_params terminal tps ++ (Op LPar ∷ z)))))
       (def_header (function_head b x.form tps a r)))
       (sym (append_assoc ps (Op RPar ∷ []) rest)) (F.def_line _ (async_again y) (type_params_again t)
-      (parameters_law c h).0 h (behind_again q))
+      (parameters_law c h).0 h (after_again q))
   header_again (F.class_line t b) = F.class_line (type_params_again t) (bases_again b)

@@ -13,10 +13,10 @@ use Rattle.pyunparse_text.specs.WrittenPatterns.{written_pattern}
 use Rattle.pyunparse_text.specs.Terminals.{terminal}
 use Rattle.pyunparse_text.specs.Modules.{WrittenLine, written_line}
 use Rattle.pyunparse_text.specs.Laws.{HaveForms, no_form, a_form, MayBeTokens, ModulesComeBack}
-use Rattle.pyunparse_text.proofs.Patterns.Values.{Told, told_front, told_behind, told_rest}
+use Rattle.pyunparse_text.proofs.Patterns.Values.{Told, told_front, told_after, told_rest}
 use Rattle.pyunparse_text.proofs.Patterns.Claims.{here}
 use Rattle.pyunparse_text.proofs.Patterns.Induction.{claim}
-use Rattle.pyunparse_text.proofs.Modules.Parts.{again, behind_again}
+use Rattle.pyunparse_text.proofs.Modules.Parts.{again, after_again}
 use Rattle.pyunparse_text.proofs.Modules.Simple.{simple_again}
 use Rattle.pyunparse_text.proofs.Modules.Headers.{header_again}
 use Rattle.pyunparse_text.proofs.Modules.With.{items_again}
@@ -39,7 +39,7 @@ head_again : {profile : Profile} {ts : List Terminal} {h : Header} → Told ts �
 head_again q (other_head p) = other_head (header_again items_again p)
 head_again q (match_head form w p) = match_head F.match_name w (again p)
 head_again q (case_head w (F.case_line {ts = ts} {us = us} form d g)) =
-    case_head w (F.case_line F.case_name (pattern_again (told_front ts us (told_rest q)) d) (behind_again g))
+    case_head w (F.case_line F.case_name (pattern_again (told_front ts us (told_rest q)) d) (after_again g))
 
 decorator_again : {profile : Profile} {ts : List Terminal} {e : Expr} → F.FormOf profile ts (decorator_form e) → Test e
 decorator_again (F.decorator_line p) = again p
@@ -52,7 +52,7 @@ all_again profile = record {
   if_too = λ q p. if_again p;
   decorator = λ q p. decorator_again p;
   front = told_front;
-  rest = λ ts us t c n. told_behind ts us t;
+  rest = λ ts us t c n. told_after ts us t;
 }
 
 formed : {profile : Profile} {earlier : List Line} {ws : List (WrittenLine Terminal)} {xs : List Line} → All MayBeTokens ws

@@ -33,7 +33,7 @@ use Rattle.pyunparse_text.specs.Modules.{clause, case_lines, handler_lines}
 use Rattle.pyunparse_text.specs.Laws.{IsOfTokens, GiveLines, no_line, a_line, HaveForms, no_form, a_form, AreModule, ModuleIsRead}
 use Rattle.pyunparse_text.specs.Laws.{ModulesAreRead}
 use Rattle.pyunparse_text.proofs.PieceLaws.Shallow.{Low}
-use Rattle.pyunparse_text.proofs.PieceLaws.Derived.{Said, front, rest, behind}
+use Rattle.pyunparse_text.proofs.PieceLaws.Derived.{Said, front, rest, following}
 use Rattle.pyunparse_text.proofs.PieceLaws.OfTokens.{of_tokens}
 use Rattle.pyunparse_text.proofs.PieceLaws.Law.{Reads}
 use Rattle.pyunparse_text.proofs.Modules.FlatLines.{line_brackets}
@@ -236,7 +236,7 @@ module _ (extent : Extent) where
     if_too = λ q p. if_read q p;
     decorator = λ q p. decorated_read q p;
     front = front;
-    rest = λ ts us t c n h. subst (λ o. Said extent o us) (n []) (behind ts us t c h);
+    rest = λ ts us t c n h. subst (λ o. Said extent o us) (n []) (following ts us t c h);
   }
 
   formed : {profile : Profile} {earlier : List FormLine} {ws : List (WrittenLine Terminal)} {xs : List FormLine} → All (IsSaid extent) ws

@@ -44,15 +44,15 @@ covered text a t o [] left w e s c = All-nil (HasCharacters text)
 covered text a t o (x ∷ es) left w e s c =
     let n : StandsNext o t x = c.0 in
     let b : List ℕ = a ++ n.gap in
-    let p : text ≡ b ++ (n.own ++ n.behind) = w ∙ ap (λ u. a ++ u) n.parts ∙ sym (append_assoc a n.gap (n.own ++ n.behind)) in
-    let r : all_scalars (n.own ++ n.behind) ≡ true = back_scalars n.gap (n.own ++ n.behind) (subst (λ u. all_scalars u ≡ true) n.parts s) in
+    let p : text ≡ b ++ (n.own ++ n.following) = w ∙ ap (λ u. a ++ u) n.parts ∙ sym (append_assoc a n.gap (n.own ++ n.following)) in
+    let r : all_scalars (n.own ++ n.following) ≡ true = back_scalars n.gap (n.own ++ n.following) (subst (λ u. all_scalars u ≡ true) n.parts s) in
     let f : x.«from» ≡ bytes_in b = n.begins ∙ ap (λ k. k + bytes_in n.gap) e ∙ sym (bytes_both a n.gap) in
-    let own : all_scalars n.own ≡ true = scalars_of n.own n.behind r in
-    let is : text_of text x ≡ n.own = sliced text b n.own n.behind x.«from» x.to p own f n.ends in
-    let q : text ≡ (b ++ n.own) ++ n.behind = p ∙ sym (append_assoc b n.own n.behind) in
+    let own : all_scalars n.own ≡ true = scalars_of n.own n.following r in
+    let is : text_of text x ≡ n.own = sliced text b n.own n.following x.«from» x.to p own f n.ends in
+    let q : text ≡ (b ++ n.own) ++ n.following = p ∙ sym (append_assoc b n.own n.following) in
     let l : x.to ≡ bytes_in (b ++ n.own) = n.ends ∙ ap (λ k. k + bytes_in n.own) f ∙ sym (bytes_both b n.own) in
     All-cons (HasCharacters text) x es (ap all_scalars is ∙ own)
-    (covered text (b ++ n.own) n.behind x.to es left q l (back_scalars n.own n.behind r) c.1)
+    (covered text (b ++ n.own) n.following x.to es left q l (back_scalars n.own n.following r) c.1)
 
 abbrev IsText : Token → Type 0
 IsText t = all_scalars t.text ≡ true
@@ -60,9 +60,9 @@ IsText t = all_scalars t.text ≡ true
 alone : (k : Kind) (p : Place) (t : List ℕ) → all_scalars t ≡ true → All IsText (record { kind = k; start = p; text = t } ∷ [])
 alone k p t h = All-cons IsText (record { kind = k; start = p; text = t }) [] h (All-nil IsText)
 
-behind_supplied : (text : List ℕ) (k : Kind) (p : Place) (t : List ℕ) → all_scalars t ≡ true
+after_supplied : (text : List ℕ) (k : Kind) (p : Place) (t : List ℕ) → all_scalars t ≡ true
     → All IsText (supplied text ∷ (record { kind = k; start = p; text = t } ∷ []))
-behind_supplied text k p t h = All-cons IsText (supplied text) (record { kind = k; start = p; text = t } ∷ []) refl (alone k p t h)
+after_supplied text k p t h = All-cons IsText (supplied text) (record { kind = k; start = p; text = t } ∷ []) refl (alone k p t h)
 
 given_texts : (text : List ℕ) (b : Bool) (e : Entry) (k : Kind) → e.kind ≡ k → HasCharacters text e → All IsText (tokens_of_entry text b e)
 given_texts text b e kinds.Encoding q h = rw q (All-nil IsText)
@@ -70,9 +70,9 @@ given_texts text b e kinds.Comment q h = rw q (All-nil IsText)
 given_texts text b e kinds.Nl q h = rw q (All-nil IsText)
 given_texts text true e kinds.Newline q h = rw q (alone kinds.Newline e.start (text_of text e) h)
 given_texts text false e kinds.Newline q h = rw q (All-nil IsText)
-given_texts text true e kinds.Dedent q h = rw q (behind_supplied text kinds.Dedent e.start (text_of text e) h)
+given_texts text true e kinds.Dedent q h = rw q (after_supplied text kinds.Dedent e.start (text_of text e) h)
 given_texts text false e kinds.Dedent q h = rw q (alone kinds.Dedent e.start (text_of text e) h)
-given_texts text true e kinds.EndMarker q h = rw q (behind_supplied text kinds.EndMarker e.start (text_of text e) h)
+given_texts text true e kinds.EndMarker q h = rw q (after_supplied text kinds.EndMarker e.start (text_of text e) h)
 given_texts text false e kinds.EndMarker q h = rw q (alone kinds.EndMarker e.start (text_of text e) h)
 given_texts text b e k q h = rw q (alone k e.start (text_of text e) h)
 

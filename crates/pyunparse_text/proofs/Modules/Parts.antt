@@ -26,10 +26,10 @@ pub perhaps_again : {l : Level} {ts : List Terminal} {e : Option Expr} → F.Per
 perhaps_again F.left_out = F.left_out
 perhaps_again (F.given p) = F.given (again p)
 
-pub behind_again : {t : Terminal} {l : Level} {ts : List Terminal} {e : Option Expr} → F.Behind t l ts e
-    → F.Behind t l (S.behind terminal t l e) e
-behind_again F.none_behind = F.none_behind
-behind_again (F.behind p) = F.behind (again p)
+pub after_again : {t : Terminal} {l : Level} {ts : List Terminal} {e : Option Expr} → F.Following t l ts e
+    → F.Following t l (S.following terminal t l e) e
+after_again F.none_after = F.none_after
+after_again (F.following p) = F.following (again p)
 
 -- ---- Lists with commas.
 
@@ -151,7 +151,7 @@ all_again (F.bracketed_names {as_ = as_} c) = imported_again as_ (last_comma Ali
 -- ---- Parameters of types.
 
 type_param_again : (ts : List Terminal) (p : TypeParam) → F.TypeParamOf ts p → F.TypeParamOf (S.type_param terminal p) p
-type_param_again _ _ (F.type_var b) = F.type_var (behind_again b)
+type_param_again _ _ (F.type_var b) = F.type_var (after_again b)
 type_param_again _ _ F.type_var_tuple = F.type_var_tuple
 type_param_again _ _ F.param_spec = F.param_spec
 

@@ -15,15 +15,15 @@ use Rattle.pyunparse_text.specs.Modules.{WrittenLine, written_line}
 use Rattle.pyunparse_text.specs.Laws.{HaveForms, no_form, a_form, ArePlaced, CasesStandInMatches}
 
 -- the lines before others, nearest first
-abbrev behind : List Line → List Line → List Line
-behind earlier [] = earlier
-behind earlier (x ∷ xs) = behind (x ∷ earlier) xs
+abbrev following : List Line → List Line → List Line
+following earlier [] = earlier
+following earlier (x ∷ xs) = following (x ∷ earlier) xs
 
-behind_both : (earlier xs ys : List Line) → behind earlier (xs ++ ys) ≡ behind (behind earlier xs) ys
-behind_both earlier [] ys = refl
-behind_both earlier (x ∷ xs) ys = behind_both (x ∷ earlier) xs ys
+following_both : (earlier xs ys : List Line) → following earlier (xs ++ ys) ≡ following (following earlier xs) ys
+following_both earlier [] ys = refl
+following_both earlier (x ∷ xs) ys = following_both (x ∷ earlier) xs ys
 
-placed_both : (earlier xs ys : List Line) → ArePlaced earlier xs → ArePlaced (behind earlier xs) ys → ArePlaced earlier (xs ++ ys)
+placed_both : (earlier xs ys : List Line) → ArePlaced earlier xs → ArePlaced (following earlier xs) ys → ArePlaced earlier (xs ++ ys)
 placed_both earlier [] ys p q = q
 placed_both earlier (x ∷ xs) ys p q = (p.0, placed_both (x ∷ earlier) xs ys p.1 q)
 
@@ -41,15 +41,15 @@ beside m l f earlier h = let e : nat_lt l m ≡ false = grind (arith, nat_tests)
 
 record Placed (inside : Bool) (l : ℕ) (xs : List Line) : Type 0 where
   at : (earlier : List Line) → stands_in_match l earlier ≡ inside → ArePlaced earlier xs
-  kept : (m : ℕ) (earlier : List Line) → m ≤ l → stands_in_match m (behind earlier xs) ≡ stands_in_match m earlier
+  kept : (m : ℕ) (earlier : List Line) → m ≤ l → stands_in_match m (following earlier xs) ≡ stands_in_match m earlier
 
 nothing : (inside : Bool) (l : ℕ) → Placed inside l []
 nothing inside l = record { at = λ earlier h. tt; kept = λ m earlier h. refl }
 
 both : {inside : Bool} {l : ℕ} {xs ys : List Line} → Placed inside l xs → Placed inside l ys → Placed inside l (xs ++ ys)
 both {inside} {l} {xs} {ys} p q = record {
-  at = λ earlier h. placed_both earlier xs ys (p.at earlier h) (q.at (behind earlier xs) (p.kept l earlier (omega arith) ∙ h));
-  kept = λ m earlier h. rw (behind_both earlier xs ys) (q.kept m (behind earlier xs) h ∙ p.kept m earlier h);
+  at = λ earlier h. placed_both earlier xs ys (p.at earlier h) (q.at (following earlier xs) (p.kept l earlier (omega arith) ∙ h));
+  kept = λ m earlier h. rw (following_both earlier xs ys) (q.kept m (following earlier xs) h ∙ p.kept m earlier h);
 }
 
 -- a line and those of its block

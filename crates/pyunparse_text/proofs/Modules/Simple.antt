@@ -16,7 +16,7 @@ use Rattle.pyunparse_text.specs.Written.{listed, written, each}
 use Rattle.pyunparse_text.specs.Terminals.{terminal}
 use Rattle.pyunparse_text.specs.Statements as S
 use Rattle.pyunparse_text.proofs.Fewest.Places.{target_law, single_target_law, del_target_law}
-use Rattle.pyunparse_text.proofs.Modules.Parts.{again, perhaps_again, behind_again, last_comma, names_again, dotted_again, points_again}
+use Rattle.pyunparse_text.proofs.Modules.Parts.{again, perhaps_again, after_again, last_comma, names_again, dotted_again, points_again}
 use Rattle.pyunparse_text.proofs.Modules.Parts.{aliases_again, all_again, type_params_again}
 
 pub target_again : {ts : List Terminal} {s : Expr} → G.Target ts s → G.Target (written terminal Stars s) s
@@ -54,7 +54,7 @@ sign_is Bin.FloorDiv = refl
 
 module _ {profile : Profile} where
   annotated_again : (s : Expr) {a : Expr} {v : Option Expr} {us vs : List Terminal} → G.SingleTarget (written terminal Primary s) s
-      → G.Derives Expression us a → F.Behind (Op Equal) Value vs v
+      → G.Derives Expression us a → F.Following (Op Equal) Value vs v
       → F.Simple profile (S.annotated terminal s false ++ (Op Colon ∷ (us ++ vs))) (Trees.AnnAssign s a v false)
   unfolding written
   annotated_again (Trees.Name x c) p q r = F.annotated_group p q r
@@ -76,14 +76,14 @@ module _ {profile : Profile} where
   simple_again (F.value p) = F.value (again p)
   simple_again (F.assign c p) = F.assign (targets_again c) (again p)
   simple_again (F.augmented_assign x {o = o} p h q) = F.augmented_assign (S.augmented_sign o) (single_again p) (sign_is o) (again q)
-  simple_again (F.annotated_name p q) = F.annotated_name (again p) (behind_again q)
-  simple_again (F.annotated_group {t = t} p q r) = annotated_again t (single_again p) (again q) (behind_again r)
-  simple_again (F.annotated_part {t = t} p h q r) = annotated_again t (single_again p) (again q) (behind_again r)
+  simple_again (F.annotated_name p q) = F.annotated_name (again p) (after_again q)
+  simple_again (F.annotated_group {t = t} p q r) = annotated_again t (single_again p) (again q) (after_again r)
+  simple_again (F.annotated_part {t = t} p h q r) = annotated_again t (single_again p) (again q) (after_again r)
   simple_again (F.type_alias h c p) = F.type_alias h (type_params_again c) (again p)
   simple_again (F.return_of p) = F.return_of (perhaps_again p)
   simple_again F.raise_alone = F.raise_alone
-  simple_again (F.raise_of p q) = F.raise_of (again p) (behind_again q)
-  simple_again (F.assert_of p q) = F.assert_of (again p) (behind_again q)
+  simple_again (F.raise_of p q) = F.raise_of (again p) (after_again q)
+  simple_again (F.assert_of p q) = F.assert_of (again p) (after_again q)
   simple_again (F.delete {es = es} c) =
       F.delete
       (F.ends_bare (subst (λ z. F.Commas Expr G.DelTarget (listed terminal z) es) (sym (each_is Expression es))

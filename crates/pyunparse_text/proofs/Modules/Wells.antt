@@ -5,7 +5,7 @@ use Rattle.pytree_node.specs.declared.profiles.Profile.{Profile}
 use Rattle.pytree_node.specs.Trees
 use Rattle.pytree_node.specs.Trees.{Expr, Identifier, Pattern, Stmt, stmts, Case, cases, Handler, Item, If}
 use Rattle.pytoken.specs.Terminals.{Terminal}
-use Rattle.pygrammar.specs.OpenStrings.{Open, open_behind, open_behind_all}
+use Rattle.pygrammar.specs.OpenStrings.{Open, open_following, open_after_all}
 use Rattle.pygrammar.proofs.Callers.OpenStrings.{simple_closes, header_closes, case_closes}
 use Rattle.pygrammar.specs.Lines.{LoopHead, DefHead, Header, Form, Line, line, if_header, elif_header, loop_header, with_header}
 use Rattle.pygrammar.specs.Lines.{except_header}
@@ -130,7 +130,7 @@ module _ (S : Stmt → Type 0) (H : Header → Type 0) (D : Expr → Type 0) whe
     pub decorator : {t : Terminal} {ts : List Terminal} {e : Expr} → Q (t ∷ ts) → F.FormOf profile (t ∷ ts) (decorator_form e) → D e
     -- such terminals come in parts
     pub front : (ts us : List Terminal) → Q (ts ++ us) → Q ts
-    pub rest : (ts us : List Terminal) (t : Terminal) → ((o : Open) → open_behind_all o ts ≡ o) → ((o : Open) → open_behind o t ≡ o)
+    pub rest : (ts us : List Terminal) (t : Terminal) → ((o : Open) → open_after_all o ts ≡ o) → ((o : Open) → open_following o t ≡ o)
         → Q (ts ++ (t ∷ us)) → Q us
 
   module _ (profile : Profile) (Q : List Terminal → Type 0) (given : Gives profile Q) where

@@ -23,7 +23,7 @@ use Rattle.pyunparse_text.proofs.Fewest.Counted.{one, AtLeast, none, token, both
 use Rattle.pyunparse_text.proofs.Fewest.Reach.{length_bracketed}
 use Rattle.pyunparse_text.proofs.Fewest.Less.{length_separated, length_with_comma}
 use Rattle.pyunparse_text.proofs.Fewest.Claims.{given}
-use Rattle.pyunparse_text.proofs.Patterns.Values.{Told, told_front, told_behind, told_rest, literal_again, literal_short, singleton_plain}
+use Rattle.pyunparse_text.proofs.Patterns.Values.{Told, told_front, told_after, told_rest, literal_again, literal_short, singleton_plain}
 use Rattle.pyunparse_text.proofs.Patterns.Values.{class_again, class_short, attribute_written}
 
 -- ---- What may stand at a level: a MatchStar has one place.
@@ -260,7 +260,7 @@ alternative_claim {ts} {us} {p} {ps} c a = more ps a
     more : (ps : List Pattern) → AlternativesClaim us ps → AlternativesClaim (ts ++ (Op VBar ∷ us)) (p ∷ ps)
     more [] a = absurd (a.some refl)
     more (q ∷ qs) a = record {
-      list = λ h. P.alternative (here c (told_front ts (Op VBar ∷ us) h)) (a.list (told_behind ts us (Op VBar) h));
+      list = λ h. P.alternative (here c (told_front ts (Op VBar ∷ us) h)) (a.list (told_after ts us (Op VBar) h));
       short = both c.short (token refl a.short);
       some = λ e. absurd (cc);
     }
@@ -273,7 +273,7 @@ alternatives_claim {ts} {us} {p} {ps} c a = more ps a
     more : (ps : List Pattern) → AlternativesClaim us ps → Claim OrPattern (ts ++ (Op VBar ∷ us)) (Trees.MatchOr (patterns (p ∷ ps)))
     more [] a = absurd (a.some refl)
     more (q ∷ qs) a = record {
-      ready = λ h m i. fits_or m (P.alternatives (here c (told_front ts (Op VBar ∷ us) h)) (a.list (told_behind ts us (Op VBar) h)));
+      ready = λ h m i. fits_or m (P.alternatives (here c (told_front ts (Op VBar ∷ us) h)) (a.list (told_after ts us (Op VBar) h)));
       place = refl;
       short = both c.short (token refl a.short);
     }

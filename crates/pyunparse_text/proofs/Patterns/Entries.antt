@@ -23,7 +23,7 @@ use Rattle.pyunparse_text.specs.Terminals.{terminal}
 use Rattle.pyunparse_text.proofs.Fewest.Counted.{one as marks, AtLeast, none, token, both, fewer, in_brackets}
 use Rattle.pyunparse_text.proofs.Fewest.Less.{length_separated}
 use Rattle.pyunparse_text.proofs.Fewest.Claims.{given}
-use Rattle.pyunparse_text.proofs.Patterns.Values.{Told, told_front, told_behind, told_rest, class_again, class_short, key_again, key_short}
+use Rattle.pyunparse_text.proofs.Patterns.Values.{Told, told_front, told_after, told_rest, class_again, class_short, key_again, key_short}
 use Rattle.pyunparse_text.proofs.Patterns.Claims.{Claim, Ready, here, from_closed, closed, spelled}
 
 -- an entry in its list
@@ -85,7 +85,7 @@ pub entry_claim : {i : PatternItem} {ts us : List Terminal} {e : PatternEntry} {
     → PieceClaim i ts e → ListingClaim i us es
     → ListingClaim i (ts ++ (Op Comma ∷ us)) (e ∷ es)
 entry_claim {i} {ts} {us} {e} {es} p c = record {
-  standing = λ h. (p.standing (told_front ts (Op Comma ∷ us) h), c.standing (told_behind ts us (Op Comma) h));
+  standing = λ h. (p.standing (told_front ts (Op Comma ∷ us) h), c.standing (told_after ts us (Op Comma) h));
   shaped = (p.shaped, c.shaped);
   short = fewer (omega (
     arith,
@@ -116,7 +116,7 @@ element_claim c = record { standing = λ h. here c h; shaped = tt; short = c.sho
 pub key_claim : {ts us : List Terminal} {k : Expr} {p : Pattern} → P.KeyOf ts k → Claim AsPattern us p
     → PieceClaim KeyPattern (ts ++ (Op Colon ∷ us)) (Keyed k p)
 key_claim {ts} {us} q c = record {
-  standing = λ h. (key_again q (told_front ts (Op Colon ∷ us) h), here c (told_behind ts us (Op Colon) h));
+  standing = λ h. (key_again q (told_front ts (Op Colon ∷ us) h), here c (told_after ts us (Op Colon) h));
   shaped = tt;
   short = both (key_short q) (token refl c.short);
 }
@@ -197,7 +197,7 @@ round_claim {ts} {us} {p} {es} c d =
     let l : ListingClaim Element (ts ++ (Op Comma ∷ us)) (Alone p ∷ es) = first_claim c d in
     record {
       ready = λ h.
-          let more : Told (us ++ (Op RPar ∷ [])) = told_behind ts (us ++ (Op RPar ∷ [])) (Op Comma) (told_rest h) in
+          let more : Told (us ++ (Op RPar ∷ [])) = told_after ts (us ++ (Op RPar ∷ [])) (Op Comma) (told_rest h) in
           sequence_ready (Alone p ∷ es) l.shaped (
             here c (told_front ts (Op Comma ∷ (us ++ (Op RPar ∷ [])))
                 (told_rest h)),
@@ -215,7 +215,7 @@ unfolding written_pattern each_pattern
 open_claim {ts} {us} {p} {es} c d = record {
   ready = λ h. sequence_ready (Alone p ∷ es) (tt, d.shaped) (
     here c (told_front ts (Op Comma ∷ us) h),
-    d.standing (told_behind ts us (Op Comma) h),
+    d.standing (told_after ts us (Op Comma) h),
   );
   place = refl;
   short = subst (λ z. AtLeast (written_pattern marks StarPattern p ++ (tt ∷ separated tt z)) (ts ++ (Op Comma ∷ us)))
@@ -315,7 +315,7 @@ class_form {ts} {us} {e} {es} k c q =
     let m : class_of e es ≡ Some (class_tree e es) = rw q refl in
     closed (class_tree e es) _ _ (class_written terminal e es q) refl
     (λ h. P.class_pattern (class_again k) (listing_of ClassArgument es (c.standing (told_front us (Op RPar ∷ [])
-    (told_behind ts (us ++ (Op RPar ∷ [])) (Op LPar) h)))) m)
+    (told_after ts (us ++ (Op RPar ∷ [])) (Op LPar) h)))) m)
     (subst (λ z. AtLeast z (ts ++ (Op LPar ∷ (us ++ (Op RPar ∷ []))))) (sym (class_written marks e es q ClosedPattern))
     (both (class_short k) (in_brackets LPar RPar c.short)))
 

@@ -27,7 +27,7 @@ use Rattle.pyunparse_text.proofs.PieceLaws.Segments.{Closed, Each, none, more, w
 use Rattle.pyunparse_text.proofs.PieceLaws.Segments.{separated_some}
 use Rattle.pyunparse_text.proofs.PieceLaws.Segments as Segments
 use Rattle.pyunparse_text.proofs.PieceLaws.Shapes.{Plain, keyword, plain_name, constant, plain_both, double_star, paired_form}
-use Rattle.pyunparse_text.proofs.PieceLaws.Listings.{each_widen, each_both, items_listed, with_comma_items, named_argument, call_behind}
+use Rattle.pyunparse_text.proofs.PieceLaws.Listings.{each_widen, each_both, items_listed, with_comma_items, named_argument, call_after}
 use Rattle.pyunparse_text.proofs.PieceLaws.Readable.{readable}
 use Rattle.pyunparse_text.proofs.PieceLaws.LineForms.{MaybeProper, AreProper, star_name}
 use Rattle.pyunparse_text.proofs.PieceLaws.SoftWords.{wildcard_is_proper}
@@ -135,7 +135,7 @@ module _ {extent : Extent} where
         plainly s l (braces (items_listed (each_both (items (keys_are keys inner h.0 h.1)) (rest_form rest h.2))))
     pattern_readable s l (Trees.MatchClass cls inner names named) h =
         plainly s l
-        (call_behind (readable false Primary cls h.0)
+        (call_after (readable false Primary cls h.0)
         (called (items_listed (each_both (items (arguments_are inner h.1)) (named_are names named h.2 h.3)))))
     pattern_readable true l (Trees.MatchStar None) h = itemly l (star_name (target_name None) wildcard_is_proper)
     pattern_readable true l (Trees.MatchStar (Some x)) h = itemly l (star_name x h.1)

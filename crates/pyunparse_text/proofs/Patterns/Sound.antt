@@ -25,7 +25,7 @@ use Rattle.pyunparse_text.proofs.PieceLaws.Sound.{Writable}
 use Rattle.pyunparse_text.proofs.PieceLaws.Places.{open_place}
 use Rattle.pygrammar.proofs.Callers.OpenStrings.{pattern_closes, class_closes, key_closes, entry_closes}
 use Rattle.pyunparse_text.proofs.PieceLaws.LineForms.{MaybeProper, AreProper}
-use Rattle.pyunparse_text.proofs.PieceLaws.Derived.{Said, front, rest, first, behind, sound}
+use Rattle.pyunparse_text.proofs.PieceLaws.Derived.{Said, front, rest, first, following, sound}
 use Rattle.pyunparse_text.proofs.Patterns.Claims.{takes_star, none_below, named}
 use Rattle.pyunparse_text.proofs.Patterns.Entries.{mapping_tree, class_tree}
 
@@ -146,23 +146,23 @@ module _ (extent : Extent) where
     pattern_sound (P.next {l = l} {p = p} d) h = wider (takes_star l) p (subst (λ b. SoundPattern b p) (none_below l) (pattern_sound d h))
     pattern_sound (P.open_sequence {ts = ts} {us = us} {es = es} d c) h = (
       pattern_sound d (front ts (Op Comma ∷ us) h),
-      elements_sound Element es (listing_fine c (behind ts us (Op Comma) (pattern_closes d) h)),
+      elements_sound Element es (listing_fine c (following ts us (Op Comma) (pattern_closes d) h)),
     )
     pattern_sound (P.star {x = x}) h = (refl, captured_sound x.form (first (rest h)))
     pattern_sound (P.as_name {ts = ts} {p = p} {q = q} x d n) h =
         subst (SoundPattern false) (named p x.form q n).tree
-        (pattern_sound d (front ts (Word Key.As ∷ (Ident x ∷ [])) h), first (behind ts (Ident x ∷ []) (Word Key.As) (pattern_closes d) h))
+        (pattern_sound d (front ts (Word Key.As ∷ (Ident x ∷ [])) h), first (following ts (Ident x ∷ []) (Word Key.As) (pattern_closes d) h))
     pattern_sound (P.alternatives {ts = ts} {us = us} d c) h =
-        (tt, (pattern_sound d (front ts (Op VBar ∷ us) h), alternatives_sound c (behind ts us (Op VBar) (pattern_closes d) h)))
+        (tt, (pattern_sound d (front ts (Op VBar ∷ us) h), alternatives_sound c (following ts us (Op VBar) (pattern_closes d) h)))
     pattern_sound (P.literal q) h = literal_sound q h
     pattern_sound (P.singleton {t = t} {v = v} q) h = word_sound t v q
     pattern_sound (P.capture {x = x}) h = captured_sound x.form (first h)
     pattern_sound (P.value {ts = ts} x q) h =
-        (class_sound q (front ts (Op Dot ∷ (Ident x ∷ [])) h), first (behind ts (Ident x ∷ []) (Op Dot) (class_closes q) h))
+        (class_sound q (front ts (Op Dot ∷ (Ident x ∷ [])) h), first (following ts (Ident x ∷ []) (Op Dot) (class_closes q) h))
     pattern_sound (P.group {ts = ts} d) h = pattern_sound d (front ts (Op RPar ∷ []) (rest h))
     pattern_sound P.empty_sequence h = tt
     pattern_sound (P.round_sequence {ts = ts} {us = us} {es = es} d c) h =
-        let more = behind ts (us ++ (Op RPar ∷ [])) (Op Comma) (pattern_closes d) (rest h) in (
+        let more = following ts (us ++ (Op RPar ∷ [])) (Op Comma) (pattern_closes d) (rest h) in (
           pattern_sound d (front ts (Op Comma ∷ (us ++ (Op RPar ∷ [])))
               (rest h)),
           elements_sound Element es (listing_fine c (front us (Op RPar ∷ []) more)),
@@ -174,7 +174,7 @@ module _ (extent : Extent) where
         made_sound (is_mapping es) (mapping_tree es) p n
         (keys_sound KeyPattern es fine, keyed_sound KeyPattern es fine, rest_sound KeyPattern es fine)
     pattern_sound (P.class_pattern {ts = ts} {us = us} {e = e} {es = es} {p = p} q c n) h =
-        let fine = listing_fine c (front us (Op RPar ∷ []) (behind ts (us ++ (Op RPar ∷ [])) (Op LPar) (class_closes q) h)) in
+        let fine = listing_fine c (front us (Op RPar ∷ []) (following ts (us ++ (Op RPar ∷ [])) (Op LPar) (class_closes q) h)) in
         made_sound (are_class_arguments false es) (class_tree e es) p n (
           class_sound q (front ts (Op LPar ∷ (us ++ (Op RPar ∷ []))) h),
           elements_sound ClassArgument es fine,
@@ -186,19 +186,19 @@ module _ (extent : Extent) where
         → SoundPatterns false (patterns ps)
     alternatives_sound (P.last_alternative d) h = (pattern_sound d h, tt)
     alternatives_sound (P.alternative {ts = ts} {us = us} d c) h =
-        (pattern_sound d (front ts (Op VBar ∷ us) h), alternatives_sound c (behind ts us (Op VBar) (pattern_closes d) h))
+        (pattern_sound d (front ts (Op VBar ∷ us) h), alternatives_sound c (following ts us (Op VBar) (pattern_closes d) h))
 
     listing_fine : {i : PatternItem} {ts : List Terminal} {es : List PatternEntry} → P.PatternListing i ts es
         → Said extent [] ts → AllFine i es
     listing_fine P.no_entry h = tt
     listing_fine (P.last_entry p) h = (piece_fine p h, tt)
     listing_fine (P.entry {ts = ts} {us = us} p c) h =
-        (piece_fine p (front ts (Op Comma ∷ us) h), listing_fine c (behind ts us (Op Comma) (entry_closes p) h))
+        (piece_fine p (front ts (Op Comma ∷ us) h), listing_fine c (following ts us (Op Comma) (entry_closes p) h))
 
     piece_fine : {i : PatternItem} {ts : List Terminal} {e : PatternEntry} → P.PatternPiece i ts e → Said extent [] ts → Fine i e
     piece_fine (P.element d) h = pattern_sound d h
     piece_fine (P.key_pattern {ts = ts} {us = us} q d) h =
-        (key_sound q (front ts (Op Colon ∷ us) h), pattern_sound d (behind ts us (Op Colon) (key_closes q) h))
+        (key_sound q (front ts (Op Colon ∷ us) h), pattern_sound d (following ts us (Op Colon) (key_closes q) h))
     piece_fine (P.rest q) h = first (rest h)
     piece_fine (P.argument d) h = pattern_sound d h
     piece_fine (P.named_argument d) h = (first h, pattern_sound d (rest (rest h)))

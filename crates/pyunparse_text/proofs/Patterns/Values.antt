@@ -51,8 +51,8 @@ pub told_front : (ts us : List Terminal) → Told (ts ++ us) → Told ts
 told_front ts us h = (told_parts ts us h).0
 
 -- after some terminals and one more
-pub told_behind : (ts us : List Terminal) (t : Terminal) → Told (ts ++ (t ∷ us)) → Told us
-told_behind ts us t h = told_rest (told_parts ts (t ∷ us) h).1
+pub told_after : (ts us : List Terminal) (t : Terminal) → Told (ts ++ (t ∷ us)) → Told us
+told_after ts us t h = told_rest (told_parts ts (t ∷ us) h).1
 
 -- ---- Constants.
 

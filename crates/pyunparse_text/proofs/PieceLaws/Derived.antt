@@ -13,7 +13,7 @@ use Rattle.pyunparse_text.proofs.Fewest.Less.{star_place}
 use Rattle.pyunparse_text.proofs.PieceLaws.Places.{open_place}
 use Rattle.pyunparse_text.proofs.PieceLaws.Sound.{Writable, AreWritable, WritableKeywords, WritableArguments}
 use Rattle.pyunparse_text.proofs.PieceLaws.DerivedAt as At
-pub use Rattle.pyunparse_text.proofs.PieceLaws.SaidLists.{Said, none, also, front, back, rest, first, behind}
+pub use Rattle.pyunparse_text.proofs.PieceLaws.SaidLists.{Said, none, also, front, back, rest, first, following}
 
 module _ (extent : Extent) where
   pub starred : (b : Bool) (e : Expr) → Writable (open_place extent) b e → Writable (open_place extent) true e

@@ -44,7 +44,7 @@ use Rattle.pyunparse_text.proofs.PieceLaws.Fair.{IsConstant}
 use Rattle.pyunparse_text.proofs.PieceLaws.Sound.{HasStrings, HasFormatted, Sound, AreSound, SoundValues, SoundValue, SoundSpec}
 use Rattle.pyunparse_text.proofs.PieceLaws.Sound.{SoundOptional, SoundOptionals, SoundClauses, SoundKeywords, SoundArguments}
 use Rattle.pyunparse_text.proofs.PieceLaws.Sayings.{depth_of}
-use Rattle.pyunparse_text.proofs.PieceLaws.SaidLists.{Said, front, back, rest, first, behind, quiet, left_quiet, unary_quiet, text_both}
+use Rattle.pyunparse_text.proofs.PieceLaws.SaidLists.{Said, front, back, rest, first, following, quiet, left_quiet, unary_quiet, text_both}
 use Rattle.pyunparse_text.proofs.PieceLaws.SaidLists.{bytes_both, formatted_both, text_formatted}
 
 below_plain : (o : BoolOperator) → star_place (below (chain_level o)) ≡ false
@@ -370,24 +370,24 @@ module _ (extent : Extent) (o : Open) (inside : SoundInside extent o) where
     sound (G.next {l = l} {e = e} p) h = wider (star_place (below l)) (star_place l) e (allowed_below l (Trees.Starred e Load)) (sound p h)
     sound (G.yields p) h = yields_sound true p (rest h)
     sound (G.star_tuple {ts = ts} {us = us} {es = es} p c) h =
-        (sound p (front ts (Op Comma ∷ us) h), singles_sound es (listing_fine c (behind ts us (Op Comma) (expression_closes p) h)))
+        (sound p (front ts (Op Comma ∷ us) h), singles_sound es (listing_fine c (following ts us (Op Comma) (expression_closes p) h)))
     sound (G.star_item p) h = (refl, sound p (rest h))
     sound (G.named p) h = (first h, sound p (rest (rest h)))
     sound (G.lambda {ts = ts} {us = us} {ps = ps} {a = a} c q p) h = (
       arranged_sound ps a q (listing_fine c (front ts (Op Colon ∷ us) (rest h))),
-      sound p (behind ts us (Op Colon) (listing_closes c) (rest h)),
+      sound p (following ts us (Op Colon) (listing_closes c) (rest h)),
     )
     sound (G.if_else {ts = ts} {us = us} {vs = vs} p q r) h =
-        let more = behind ts (us ++ (Word Key.Else ∷ vs)) (Word Key.If) (expression_closes p) h in (
+        let more = following ts (us ++ (Word Key.Else ∷ vs)) (Word Key.If) (expression_closes p) h in (
           sound q (front us (Word Key.Else ∷ vs) more),
           sound p (front ts (Word Key.If ∷ (us ++ (Word Key.Else ∷ vs))) h),
-          sound r (behind us vs (Word Key.Else) (expression_closes q) more),
+          sound r (following us vs (Word Key.Else) (expression_closes q) more),
         )
     sound (G.chain {o = k} {ts = ts} {us = us} {e = e} p c) h = (
       tt,
       (
         plain (star_place (below (chain_level k))) e (below_plain k) (sound p (front ts (Word (chain_word k) ∷ us) h)),
-        chain_sound c (behind ts us (Word (chain_word k)) (expression_closes p) h),
+        chain_sound c (following ts us (Word (chain_word k)) (expression_closes p) h),
       ),
     )
     sound (G.unary {l = l} {t = t} {o = k} {e = e} q p) h =
@@ -396,18 +396,18 @@ module _ (extent : Extent) (o : Open) (inside : SoundInside extent o) where
     sound (G.binary {l = l} {ts = ts} {us = us} {a = a} {b = b} {o = k} t q p r) h = (
       plain (star_place l) a (left_is l t k q) (sound p (front ts (t ∷ us) h)),
       plain (star_place (below l)) b (right_is l t k q)
-          (sound r (quiet t (left_quiet l t k q) (behind ts us t (expression_closes p) h))),
+          (sound r (quiet t (left_quiet l t k q) (following ts us t (expression_closes p) h))),
     )
     sound (G.power {ts = ts} {us = us} p q) h =
-        (sound p (front ts (Op DoubleStar ∷ us) h), sound q (behind ts us (Op DoubleStar) (expression_closes p) h))
+        (sound p (front ts (Op DoubleStar ∷ us) h), sound q (following ts us (Op DoubleStar) (expression_closes p) h))
     sound (G.await p) h = sound p (rest h)
     sound (G.attribute {ts = ts} x p) h =
-        (sound p (front ts (Op Dot ∷ (Ident x ∷ [])) h), first (behind ts (Ident x ∷ []) (Op Dot) (expression_closes p) h))
+        (sound p (front ts (Op Dot ∷ (Ident x ∷ [])) h), first (following ts (Ident x ∷ []) (Op Dot) (expression_closes p) h))
     sound (G.call {ts = ts} {us = us} {f = f} {e = e} {es = es} p c q) h =
         called_sound false f e es q (sound p (front ts (Op LPar ∷ (us ++ (Op RPar ∷ []))) h))
-        (listing_fine c (front us (Op RPar ∷ []) (behind ts (us ++ (Op RPar ∷ [])) (Op LPar) (expression_closes p) h)))
+        (listing_fine c (front us (Op RPar ∷ []) (following ts (us ++ (Op RPar ∷ [])) (Op LPar) (expression_closes p) h)))
     sound (G.call_generator {ts = ts} {us = us} {vs = vs} p q c) h =
-        let more = behind ts (us ++ (vs ++ (Op RPar ∷ []))) (Op LPar) (expression_closes p) h in (
+        let more = following ts (us ++ (vs ++ (Op RPar ∷ []))) (Op LPar) (expression_closes p) h in (
           sound p (front ts (Op LPar ∷ (us ++ (vs ++ (Op RPar ∷ [])))) h),
           (
             (
@@ -420,7 +420,7 @@ module _ (extent : Extent) (o : Open) (inside : SoundInside extent o) where
         )
     sound (G.subscript {ts = ts} {us = us} p q) h = (
       sound p (front ts (Op LSqb ∷ (us ++ (Op RSqb ∷ []))) h),
-      sound q (front us (Op RSqb ∷ []) (behind ts (us ++ (Op RSqb ∷ [])) (Op LSqb) (expression_closes p) h)),
+      sound q (front us (Op RSqb ∷ []) (following ts (us ++ (Op RSqb ∷ [])) (Op LSqb) (expression_closes p) h)),
     )
     sound G.name h = first h
     sound (G.constant {t = t} {v = v} q) h = word_sound t v q
@@ -434,7 +434,7 @@ module _ (extent : Extent) (o : Open) (inside : SoundInside extent o) where
     sound (G.tuple {ts = ts} {us = us} {es = es} p c) h = (
       sound p (front ts (Op Comma ∷ (us ++ (Op RPar ∷ []))) (rest h)),
       singles_sound es (listing_fine c
-          (front us (Op RPar ∷ []) (behind ts (us ++ (Op RPar ∷ [])) (Op Comma) (expression_closes p) (rest h)))),
+          (front us (Op RPar ∷ []) (following ts (us ++ (Op RPar ∷ [])) (Op Comma) (expression_closes p) (rest h)))),
     )
     sound (G.generator_group {ts = ts} {us = us} p c) h = (
       sound p (front ts (us ++ (Op RPar ∷ [])) (rest h)),
@@ -448,7 +448,7 @@ module _ (extent : Extent) (o : Open) (inside : SoundInside extent o) where
     sound (G.dict {ts = ts} {es = es} c) h = let fine = listing_fine c (front ts (Op RBrace ∷ []) (rest h)) in
         (keys_sound es fine, values_sound es fine)
     sound (G.dict_comp {ts = ts} {us = us} {vs = vs} p q c) h =
-        let more = behind ts (us ++ (vs ++ (Op RBrace ∷ []))) (Op Colon) (expression_closes p) (rest h) in (
+        let more = following ts (us ++ (vs ++ (Op RBrace ∷ []))) (Op Colon) (expression_closes p) (rest h) in (
           sound p (front ts (Op Colon ∷ (us ++ (vs ++ (Op RBrace ∷ [])))) (rest h)),
           sound q (front us (vs ++ (Op RBrace ∷ [])) more),
           comps_sound c (front vs (Op RBrace ∷ []) (back us (vs ++ (Op RBrace ∷ [])) (expression_closes q) more)),
@@ -459,19 +459,19 @@ module _ (extent : Extent) (o : Open) (inside : SoundInside extent o) where
       comps_sound c (front us (Op RBrace ∷ []) (back ts (us ++ (Op RBrace ∷ [])) (expression_closes p) (rest h))),
     )
     sound (G.subject_tuple {ts = ts} {us = us} {es = es} p c) h =
-        (sound p (front ts (Op Comma ∷ us) h), singles_sound es (listing_fine c (behind ts us (Op Comma) (expression_closes p) h)))
+        (sound p (front ts (Op Comma ∷ us) h), singles_sound es (listing_fine c (following ts us (Op Comma) (expression_closes p) h)))
     sound (G.star_elem p) h = (refl, sound p (rest h))
     sound (G.star_slices p) h = ((refl, sound p (rest h)), tt)
     sound (G.parts {ts = ts} {us = us} {es = es} p c) h =
-        (sound p (front ts (Op Comma ∷ us) h), singles_sound es (listing_fine c (behind ts us (Op Comma) (expression_closes p) h)))
+        (sound p (front ts (Op Comma ∷ us) h), singles_sound es (listing_fine c (following ts us (Op Comma) (expression_closes p) h)))
     sound (G.star_part p) h = (refl, sound p (rest h))
     sound (G.slice {ts = ts} {us = us} p q) h =
-        (perhaps_sound p (front ts (Op Colon ∷ us) h), perhaps_sound q (behind ts us (Op Colon) (perhaps_closes p) h), tt)
+        (perhaps_sound p (front ts (Op Colon ∷ us) h), perhaps_sound q (following ts us (Op Colon) (perhaps_closes p) h), tt)
     sound (G.slice_step {ts = ts} {us = us} {vs = vs} p q r) h =
-        let more = behind ts (us ++ (Op Colon ∷ vs)) (Op Colon) (perhaps_closes p) h in (
+        let more = following ts (us ++ (Op Colon ∷ vs)) (Op Colon) (perhaps_closes p) h in (
           perhaps_sound p (front ts (Op Colon ∷ (us ++ (Op Colon ∷ vs))) h),
           perhaps_sound q (front us (Op Colon ∷ vs) more),
-          perhaps_sound r (behind us vs (Op Colon) (perhaps_closes q) more),
+          perhaps_sound r (following us vs (Op Colon) (perhaps_closes q) more),
         )
 
     yields_sound : {ts : List Terminal} {e : Expr} (b : Bool) → G.Yields ts e → Said extent o ts → Sound extent here b e
@@ -492,7 +492,7 @@ module _ (extent : Extent) (o : Open) (inside : SoundInside extent o) where
     chain_sound (G.last_link {o = k} {e = e} p) h = (plain (star_place (below (chain_level k))) e (below_plain k) (sound p h), tt)
     chain_sound (G.link {o = k} {ts = ts} {us = us} {e = e} p c) h = (
       plain (star_place (below (chain_level k))) e (below_plain k) (sound p (front ts (Word (chain_word k) ∷ us) h)),
-      chain_sound c (behind ts us (Word (chain_word k)) (expression_closes p) h),
+      chain_sound c (following ts us (Word (chain_word k)) (expression_closes p) h),
     )
 
     compares_sound : {ts : List Terminal} {os : List Comparison} {es : List Expr} → G.Compares ts os es → Said extent o ts → AllSound es
@@ -504,12 +504,12 @@ module _ (extent : Extent) (o : Open) (inside : SoundInside extent o) where
     listing_fine G.no_item h = tt
     listing_fine (G.last_item p) h = (piece_fine p h, tt)
     listing_fine (G.item {ts = ts} {us = us} p c) h =
-        (piece_fine p (front ts (Op Comma ∷ us) h), listing_fine c (behind ts us (Op Comma) (piece_closes p) h))
+        (piece_fine p (front ts (Op Comma ∷ us) h), listing_fine c (following ts us (Op Comma) (piece_closes p) h))
 
     piece_fine : {i : Item} {ts : List Terminal} {e : Entry} → G.Piece i ts e → Said extent o ts → Fine e
     piece_fine (G.single {l = l} {e = e} p) h = starred (star_place l) e (sound p h)
     piece_fine (G.pair {ts = ts} {us = us} p q) h =
-        (sound p (front ts (Op Colon ∷ us) h), sound q (behind ts us (Op Colon) (expression_closes p) h))
+        (sound p (front ts (Op Colon ∷ us) h), sound q (following ts us (Op Colon) (expression_closes p) h))
     piece_fine (G.pairs_of p) h = sound p (rest h)
     piece_fine (G.argument {e = e} p) h = starred false e (sound p h)
     piece_fine (G.star_argument p) h = sound p (rest h)
@@ -537,7 +537,7 @@ module _ (extent : Extent) (o : Open) (inside : SoundInside extent o) where
     for_sound : {b : Bool} {ts : List Terminal} {g : Comprehension} (gs : List Comprehension) → G.ForIn b ts g → Said extent o ts
         → SoundClauses extent here (comprehensions gs) → SoundClauses extent here (comprehensions (g ∷ gs))
     for_sound gs (G.target_in {ts = ts} {us = us} {vs = vs} {t = t} {s = s} p q r c) h more =
-        let others = behind ts (us ++ vs) (Word Key.In) (expression_closes p) h in (
+        let others = following ts (us ++ vs) (Word Key.In) (expression_closes p) h in (
           stored_sound true t s q (sound p (front ts (Word Key.In ∷ (us ++ vs)) h)),
           sound r (front us vs others),
           ifs_sound c (back us vs (expression_closes r) others),

@@ -34,7 +34,7 @@ use Rattle.pyunparse_text.proofs.FieldTexts.TextCharacters.{can_stand}
 use Rattle.pyunparse_text.proofs.PieceLaws.Places.{Place, inside, Depth, outside, in_field, in_two, deeper, at, may_stand, stands, GiveAt}
 use Rattle.pyunparse_text.proofs.PieceLaws.Fair.{IsConstant}
 use Rattle.pyunparse_text.proofs.PieceLaws.Sound.{HasStrings, HasFormatted, SoundValues}
-use Rattle.pyunparse_text.proofs.PieceLaws.Formatted.{Promised, text, Behind}
+use Rattle.pyunparse_text.proofs.PieceLaws.Formatted.{Promised, text, Following}
 use Rattle.pyunparse_text.proofs.PieceLaws.Shallow.{shallow}
 use Rattle.pyunparse_text.proofs.PieceLaws.Sorts.{within, starts_plain, starts_item, ends_plain}
 use Rattle.pyunparse_text.proofs.PieceLaws.Segments.{Closed, Perhaps, nothing, some, Each, none, more, string}
@@ -133,7 +133,7 @@ first_formatted place n (an_expr e es) s h = empty_text place.extent place.depth
 
 pub joined_form : {place : Place} {es : List (Element Sited)} {fs : List (Element Terminal)} (b : Bool) (t : List ℕ)
     → HasStrings place.extent place.depth → HasFormatted place.depth 0 t
-    → Behind (Promised place.depth) place.depth 0 es fs → Closed place starts_plain ends_plain (joined piece b t es)
+    → Following (Promised place.depth) place.depth 0 es fs → Closed place starts_plain ends_plain (joined piece b t es)
     (joined terminal b t fs)
 joined_form {es = es} {fs = fs} false t s h x = string (Text false t ∷ es) (Text false t ∷ fs) s (text h x)
 joined_form {place} {es} {fs} true t s h x =

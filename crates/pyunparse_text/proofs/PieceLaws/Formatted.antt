@@ -1,6 +1,6 @@
 -- What is written of an f-string, with the terminals that it is read as: texts and fields in turn.
 --
--- Carries: Elements, Behind, Specified, string_flat, for Strings, Fields, Readable. On: FieldTexts.
+-- Carries: Elements, After, Specified, string_flat, for Strings, Fields, Readable. On: FieldTexts.
 use Rattle.std.proofs.Common.{◌≡◌, ℕ, suc, true, List, [], ◌∷◌, ◌++◌, refl, sym, ap, ◌∙◌, subst, ◌≤◌, append_assoc}
 use Rattle.std.specs.List.{list_all, flat_map}
 use Rattle.std.proofs.lemmas.Grind.{flat_map-append}
@@ -39,15 +39,15 @@ mutual
   -- Texts and fields in turn, in so many format specs, a text first and last; a relation says what fields are.
   pub data Elements (Is : List Sited → List Terminal → Type 0) (d : Depth) : ℕ → List (Element Sited)
       → List (Element Terminal) → Type 0 where
-    text : {n : ℕ} {t : List ℕ} {es : List (Element Sited)} {fs : List (Element Terminal)} → HasFormatted d n t → Behind Is d n es fs
+    text : {n : ℕ} {t : List ℕ} {es : List (Element Sited)} {fs : List (Element Terminal)} → HasFormatted d n t → Following Is d n es fs
         → Elements Is d n (Text (is_spec n) t ∷ es) (Text (is_spec n) t ∷ fs)
 
-  -- those behind a text
-  pub data Behind (Is : List Sited → List Terminal → Type 0) (d : Depth) : ℕ → List (Element Sited) → List (Element Terminal) → Type 0 where
-    no_field : {n : ℕ} → Behind Is d n [] []
+  -- those after a text
+  pub data Following (Is : List Sited → List Terminal → Type 0) (d : Depth) : ℕ → List (Element Sited) → List (Element Terminal) → Type 0 where
+    no_field : {n : ℕ} → Following Is d n [] []
     field : {n : ℕ} {c : Conversion} {ps : List Sited} {ts : List Terminal} {ss es : List (Element Sited)} {us fs : List (Element Terminal)}
         → HasFields n → Is ps ts → Specified Is d n ss us → Elements Is d n es fs
-        → Behind Is d n (Field c ps ∷ ((ss ++ (End ∷ [])) ++ es)) (Field c ts ∷ ((us ++ (End ∷ [])) ++ fs))
+        → Following Is d n (Field c ps ∷ ((ss ++ (End ∷ [])) ++ es)) (Field c ts ∷ ((us ++ (End ∷ [])) ++ fs))
 
   -- a format spec, or none
   pub data Specified (Is : List Sited → List Terminal → Type 0) (d : Depth) : ℕ → List (Element Sited)
@@ -72,12 +72,12 @@ module _ {d : Depth} where
   mutual
     elements_flat : {n : ℕ} {es : List (Element Sited)} {fs : List (Element Terminal)} → Elements (Promised d) d n es fs
         → Flat (flat_map element_terminals fs)
-    elements_flat (text {t = t} h b) = flat_front (FormattedText t) (λ d. refl) (behind_flat b)
+    elements_flat (text {t = t} h b) = flat_front (FormattedText t) (λ d. refl) (after_flat b)
 
-    behind_flat : {n : ℕ} {es : List (Element Sited)} {fs : List (Element Terminal)} → Behind (Promised d) d n es fs
+    after_flat : {n : ℕ} {es : List (Element Sited)} {fs : List (Element Terminal)} → Following (Promised d) d n es fs
         → Flat (flat_map element_terminals fs)
-    behind_flat no_field = flat_none
-    behind_flat (field {c = c} {us = us} {fs = fs} h f s e) =
+    after_flat no_field = flat_none
+    after_flat (field {c = c} {us = us} {fs = fs} h f s e) =
         flat_front (FieldBegin c) (λ d. refl)
         (flat_both (flat_within LPar RPar refl refl refl f.flat)
         (flat_elements (us ++ (End ∷ [])) fs (flat_elements us (End ∷ []) (spec_flat s) flat_end) (elements_flat e)))
@@ -98,12 +98,12 @@ module _ {d : Depth} where
     pub elements_kept : {n : ℕ} {es : List (Element Sited)} {fs : List (Element Terminal)} (k : ℕ) → Elements (Promised d) d n es fs
         → most_open k (flat_map element_terminals fs) ≤ 599 → Elements (IsField d) d n es fs
     elements_kept k (text {t = t} {fs = fs} h b) low =
-        text h (behind_kept k b (low_next k (FormattedText t) (flat_map element_terminals fs) low))
+        text h (following_kept k b (low_next k (FormattedText t) (flat_map element_terminals fs) low))
 
-    behind_kept : {n : ℕ} {es : List (Element Sited)} {fs : List (Element Terminal)} (k : ℕ) → Behind (Promised d) d n es fs
-        → most_open k (flat_map element_terminals fs) ≤ 599 → Behind (IsField d) d n es fs
-    behind_kept k no_field low = no_field
-    behind_kept k (field {c = c} {ts = ts} {us = us} {fs = fs} h f s e) low =
+    following_kept : {n : ℕ} {es : List (Element Sited)} {fs : List (Element Terminal)} (k : ℕ) → Following (Promised d) d n es fs
+        → most_open k (flat_map element_terminals fs) ≤ 599 → Following (IsField d) d n es fs
+    following_kept k no_field low = no_field
+    following_kept k (field {c = c} {ts = ts} {us = us} {fs = fs} h f s e) low =
         let tail = flat_map element_terminals ((us ++ (End ∷ [])) ++ fs) in
         let inside : most_open (suc k) ((ts ++ (Op RPar ∷ [])) ++ tail) ≤ 599 =
         low_next k (Op LPar) ((ts ++ (Op RPar ∷ [])) ++ tail)

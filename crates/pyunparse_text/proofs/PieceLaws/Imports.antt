@@ -84,11 +84,11 @@ readable b (p ∷ ps) a t e = and_from (list_all (λ q. is_token q.kind q.text) 
 
 -- a name that keeps close to the points before it
 abbrev near_word : Sited
-near_word is_in_field = record { kind = kinds.Name; text = []; before = true; behind = false }
+near_word is_in_field = record { kind = kinds.Name; text = []; before = true; following = false }
 
 -- what stands after points
-abbrev behind_points : List Sited
-behind_points = near_word ∷ a_word ∷ []
+abbrev after_points : List Sited
+after_points = near_word ∷ a_word ∷ []
 
 abbrev ends_near : List Sited
 ends_near = near_word ∷ ends_plain
@@ -97,8 +97,8 @@ more_near : (p : Piece) → within ends_plain p ≡ true → within ends_near p 
 more_near p e = let h = and_parts (is_token p.kind p.text) (is_like ends_plain p) e in let g =
     or_right (like near_word p) (is_like ends_plain p) h.1 in rw (h.0, g) refl
 
-word_behind : (p : Piece) → within (a_word ∷ []) p ≡ true → within behind_points p ≡ true
-word_behind p e = let h = and_parts (is_token p.kind p.text) (is_like (a_word ∷ []) p) e in let g =
+word_after : (p : Piece) → within (a_word ∷ []) p ≡ true → within after_points p ≡ true
+word_after p e = let h = and_parts (is_token p.kind p.text) (is_like (a_word ∷ []) p) e in let g =
     or_right (like near_word p) (is_like (a_word ∷ []) p) h.1 in rw (h.0, g) refl
 
 -- a text is of one name at least
@@ -127,10 +127,10 @@ three_begin : begins_operator (codes "...") ≡ true
 unfolding operators
 three_begin = refl
 
-word_kind : (q : Piece) → is_like behind_points q ≡ true → is_operator_kind q.kind ≡ false
+word_kind : (q : Piece) → is_like after_points q ≡ true → is_operator_kind q.kind ≡ false
 word_kind q e = by (is_operator_kind q.kind) refl e
   where
-    by : (b : Bool) → is_operator_kind q.kind ≡ b → is_like behind_points q ≡ true → b ≡ false
+    by : (b : Bool) → is_operator_kind q.kind ≡ b → is_like after_points q ≡ true → b ≡ false
     by false f e = refl
     by true f e = let g : false ≡ true = rw f at e in absurd (cc)
 
@@ -153,13 +153,13 @@ two_apart close q qs n f a =
     none true = refl
     none false = refl
 
-one_suit : (close : Bool) → suit (point_starts close) behind_points ≡ true
+one_suit : (close : Bool) → suit (point_starts close) after_points ≡ true
 unfolding operators
 one_suit close = refl
 
 -- by whether there are any
 abbrev level_starts : Bool → ℕ → List Sited
-level_starts close zero = behind_points
+level_starts close zero = after_points
 level_starts close (suc n) = point_starts close
 
 three_suit : (close : Bool) (n : ℕ) → suit (sited (Op Ellipsis) close false ∷ []) (level_starts true n) ≡ true
@@ -252,9 +252,9 @@ module _ {extent : Extent} where
 
   -- ---- Names with points between.
 
-  near_name : (x : Identifier) → IsProper x → Closed (open_place extent) behind_points ends_near
+  near_name : (x : Identifier) → IsProper x → Closed (open_place extent) after_points ends_near
       (sited (in_form x) true false ∷ []) (in_form x ∷ [])
-  near_name x h = token behind_points ends_near (in_form x) true false (fair_name x h) refl refl refl refl
+  near_name x h = token after_points ends_near (in_form x) true false (fair_name x h) refl refl refl refl
 
   first_word : (k : Keyword) → Closed (open_place extent) (a_word ∷ []) ends_plain (word piece k ∷ []) (word terminal k ∷ [])
   first_word k = token (a_word ∷ []) ends_plain (Word k) false false (fair_word k) refl refl refl refl
@@ -274,7 +274,7 @@ module _ {extent : Extent} where
   plain_names x xs h = tail (plain_name x h.0) (rest_are xs h.1) refl
 
   near_names : (x : Identifier) (xs : List Identifier) → AreProper (x ∷ xs)
-      → Closed (open_place extent) behind_points ends_near (S.dotted_names piece true (x ∷ xs)) (S.dotted_names terminal true (x ∷ xs))
+      → Closed (open_place extent) after_points ends_near (S.dotted_names piece true (x ∷ xs)) (S.dotted_names terminal true (x ∷ xs))
   unfolding operators
   near_names x xs h = tail (near_name x h.0) (perhaps_widen {c = tight piece Dot ∷ []} (λ p e. e) more_near (rest_are xs h.1)) refl
 
@@ -285,9 +285,9 @@ module _ {extent : Extent} where
       (plain_names w.first w.others (subst AreProper w.is h))
 
   dotted_near : (x : Identifier) → AreProper (names_in x)
-      → Closed (open_place extent) behind_points ends_near (S.dotted piece true x) (S.dotted terminal true x)
+      → Closed (open_place extent) after_points ends_near (S.dotted piece true x) (S.dotted terminal true x)
   dotted_near x h = let w = named x in
-      subst (λ xs. Closed (open_place extent) behind_points ends_near (S.dotted_names piece true xs) (S.dotted_names terminal true xs))
+      subst (λ xs. Closed (open_place extent) after_points ends_near (S.dotted_names piece true xs) (S.dotted_names terminal true xs))
       (sym w.is) (near_names w.first w.others (subst AreProper w.is h))
 
   -- ---- Points.
@@ -316,22 +316,22 @@ first_is q t o = by (bytes_eq (take 1 q.text) (codes ".")) refl
         let z : true ≡ false = sym three_begin ∙ g in
         absurd (cc)
 
-not_point : (q : Piece) → within behind_points q ≡ true → bytes_eq (take 1 q.text) (codes ".") ≡ false
-not_point q e = let h = and_parts (is_token q.kind q.text) (is_like behind_points q) e in first_is q h.0 (word_kind q h.1)
+not_point : (q : Piece) → within after_points q ≡ true → bytes_eq (take 1 q.text) (codes ".") ≡ false
+not_point q e = let h = and_parts (is_token q.kind q.text) (is_like after_points q) e in first_is q h.0 (word_kind q h.1)
 
-both_told : (close : Bool) (ys : List Piece) → begins_by (within behind_points) ys ≡ true → told ys ≡ true
+both_told : (close : Bool) (ys : List Piece) → begins_by (within after_points) ys ≡ true → told ys ≡ true
     → all_apart (sited (Op Dot) close false false) (second ∷ ys) ≡ true
 both_told close [] b t = cc
 both_told close (q ∷ qs) b t =
     let d = one_point {extent = Whole} true in
-    let f : fit second q ≡ true = sorts_fit (point_starts true) behind_points (one_suit true) second q (d.segment point_low).form.ends b in
+    let f : fit second q ≡ true = sorts_fit (point_starts true) after_points (one_suit true) second q (d.segment point_low).form.ends b in
     two_apart close q qs (not_point q b) f t
   where
     point_low : Low (Op Dot ∷ [])
     point_low h = omega arith
 
 module _ {extent : Extent} where
-  two_points : (close : Bool) {ys : List Sited} {us : List Terminal} → Later extent behind_points ys us
+  two_points : (close : Bool) {ys : List Sited} {us : List Terminal} → Later extent after_points ys us
       → Later extent (point_starts close) (sited (Op Dot) close false ∷ (sited (Op Dot) true false ∷ ys)) (Op Dot ∷ (Op Dot ∷ us))
   two_points close {ys} {us} y =
       let x = one_point {extent = extent} close in
@@ -359,7 +359,7 @@ module _ {extent : Extent} where
         balanced = balanced_both (p ∷ []) (second ∷ outside ys) x.balanced z.balanced;
       }
 
-  points_before : (close : Bool) (n : ℕ) {ys : List Sited} {us : List Terminal} → Later extent behind_points ys us
+  points_before : (close : Bool) (n : ℕ) {ys : List Sited} {us : List Terminal} → Later extent after_points ys us
       → Later extent (level_starts close n) (S.point_signs piece close (S.points n) ++ ys) (S.point_signs terminal close (S.points n) ++ us)
   points_before close zero y = y
   points_before close (suc zero) y = join_later (one_point close) y (one_suit close)
@@ -406,10 +406,10 @@ module _ {extent : Extent} where
   from_plain x names h i = join (keyword Key.From) (join (dotted_plain x h) (imported_are names i) refl) refl
 
   module_are : (m : Option Identifier) (names : List Alias) → SoundModule m → SoundUnless (S.are_all names) names
-      → Later extent behind_points (S.module_name piece true m ++ (word piece Key.Import ∷ S.imported piece names))
+      → Later extent after_points (S.module_name piece true m ++ (word piece Key.Import ∷ S.imported piece names))
       (S.module_name terminal true m ++ (word terminal Key.Import ∷ S.imported terminal names))
   unfolding operators
-  module_are None names h i = later (widen {d = ends_import} word_behind (λ p e. e) (imported_are names i))
+  module_are None names h i = later (widen {d = ends_import} word_after (λ p e. e) (imported_are names i))
   module_are (Some x) names h i = later (join (dotted_near x h) (imported_are names i) refl)
 
   pub from_points : (n : ℕ) (m : Option Identifier) (names : List Alias) → SoundModule m → SoundUnless (S.are_all names) names

@@ -1,6 +1,6 @@
 -- What the parts of a line open of f-strings they close.
 --
--- Carries: behind_close, as_close and 10 more, for LinesDerived. On: what pygrammar proves of lists that the grammar gives.
+-- Carries: after_close, as_close and 10 more, for LinesDerived. On: what pygrammar proves of lists that the grammar gives.
 use Rattle.std.proofs.Common.{◌≡◌, ℕ, refl, ap, ◌∙◌, List, [], ◌∷◌, ◌++◌, Option}
 use Rattle.pylex_lexeme.specs.declared.kinds.Exact.TheVariants as Sign
 use Rattle.pytoken.specs.declared.keywords.Keyword.TheVariants as Key
@@ -8,20 +8,20 @@ use Rattle.pytree_node.specs.declared.profiles.Profile.{Profile}
 use Rattle.pytree_node.specs.Trees.{Expr, Identifier, Alias, Item, TypeParam}
 use Rattle.pytoken.specs.Terminals.{Terminal, Op, Word}
 use Rattle.pygrammar.specs.declared.levels.Level.{Level}
-use Rattle.pygrammar.specs.OpenStrings.{Open, open_behind, open_behind_all}
+use Rattle.pygrammar.specs.OpenStrings.{Open, open_following, open_after_all}
 use Rattle.pygrammar.specs.Forms as F
-use Rattle.pygrammar.proofs.Callers.OpenStrings.{behind_append, expression_closes, target_closes, item_target_closes}
+use Rattle.pygrammar.proofs.Callers.OpenStrings.{after_append, expression_closes, target_closes, item_target_closes}
 use Rattle.pyunparse_text.proofs.PieceLaws.SaidLists.{Closing}
 
 closing_both : (ts us : List Terminal) → Closing ts → Closing us → Closing (ts ++ us)
-closing_both ts us c d o = behind_append o ts us ∙ (ap (λ x. open_behind_all x us) (c o) ∙ d o)
+closing_both ts us c d o = after_append o ts us ∙ (ap (λ x. open_after_all x us) (c o) ∙ d o)
 
 -- [t X], where t opens nothing
-pub behind_close : {t : Terminal} {l : Level} {ts : List Terminal} {e : Option Expr}
-    → ((o : Open) → open_behind o t ≡ o) → F.Behind t l ts e
+pub after_close : {t : Terminal} {l : Level} {ts : List Terminal} {e : Option Expr}
+    → ((o : Open) → open_following o t ≡ o) → F.Following t l ts e
     → Closing ts
-behind_close q F.none_behind o = refl
-behind_close q (F.behind {ts = ts} p) o = ap (λ x. open_behind_all x ts) (q o) ∙ expression_closes p o
+after_close q F.none_after o = refl
+after_close q (F.following {ts = ts} p) o = ap (λ x. open_after_all x ts) (q o) ∙ expression_closes p o
 
 pub as_close : {ts : List Terminal} {x : Option Identifier} → F.As ts x → Closing ts
 as_close F.no_as o = refl
@@ -40,7 +40,7 @@ module _ (A : Type 0) (X : List Terminal → A → Type 0) (each : (ts : List Te
   last_close (F.ends_comma {ts = ts} c) o = closing_both ts (Op Sign.Comma ∷ []) (commas_close c) (λ o. refl) o
 
 pub type_close : (ts : List Terminal) (p : TypeParam) → F.TypeParamOf ts p → Closing ts
-type_close _ _ (F.type_var b) o = behind_close (λ o. refl) b o
+type_close _ _ (F.type_var b) o = after_close (λ o. refl) b o
 type_close _ _ F.type_var_tuple o = refl
 type_close _ _ F.param_spec o = refl
 

@@ -124,43 +124,43 @@ module _ {place : Place} where
   option_plain (Some e) h = some (readable false Expression e h)
 
   pub option_word : (k : Keyword) (e : Option Expr) → SoundOption place false e
-      → Perhaps place starts_plain ends_plain (S.behind piece (word piece k) Expression e)
-      (S.behind terminal (word terminal k) Expression e)
+      → Perhaps place starts_plain ends_plain (S.following piece (word piece k) Expression e)
+      (S.following terminal (word terminal k) Expression e)
   option_word k None h = nothing
   option_word k (Some e) h = some (plain_both (keyword k) (readable false Expression e h))
 
   pub option_value : (e : Option Expr) → SoundOption place true e
-      → Perhaps place (free piece (Op Equal) ∷ []) ends_comma (S.behind piece (free piece (Op Equal)) Value e)
-      (S.behind terminal (free terminal (Op Equal)) Value e)
+      → Perhaps place (free piece (Op Equal) ∷ []) ends_comma (S.following piece (free piece (Op Equal)) Value e)
+      (S.following terminal (free terminal (Op Equal)) Value e)
   unfolding operators
   option_value None h = nothing
   option_value (Some e) h = some (join (loose Equal refl) (readable true Value e h) refl)
 
   pub option_message : (e : Option Expr) → SoundOption place false e
-      → Perhaps place (trailing piece Comma ∷ []) ends_plain (S.behind piece (trailing piece Comma) Expression e)
-      (S.behind terminal (trailing terminal Comma) Expression e)
+      → Perhaps place (trailing piece Comma ∷ []) ends_plain (S.following piece (trailing piece Comma) Expression e)
+      (S.following terminal (trailing terminal Comma) Expression e)
   unfolding operators
   option_message None h = nothing
   option_message (Some e) h = some (join comma (readable false Expression e h) refl)
 
   pub option_bound : (e : Option Expr) → SoundOption place false e
-      → Perhaps place (trailing piece Colon ∷ []) ends_plain (S.behind piece (trailing piece Colon) Expression e)
-      (S.behind terminal (trailing terminal Colon) Expression e)
+      → Perhaps place (trailing piece Colon ∷ []) ends_plain (S.following piece (trailing piece Colon) Expression e)
+      (S.following terminal (trailing terminal Colon) Expression e)
   unfolding operators
   option_bound None h = nothing
   option_bound (Some e) h = some (join colon (readable false Expression e h) refl)
 
   pub option_result : (e : Option Expr) → SoundOption place false e
-      → Perhaps place (free piece (Op RArrow) ∷ []) ends_plain (S.behind piece (free piece (Op RArrow)) Expression e)
-      (S.behind terminal (free terminal (Op RArrow)) Expression e)
+      → Perhaps place (free piece (Op RArrow) ∷ []) ends_plain (S.following piece (free piece (Op RArrow)) Expression e)
+      (S.following terminal (free terminal (Op RArrow)) Expression e)
   unfolding operators
   option_result None h = nothing
   option_result (Some e) h = some (join (loose RArrow refl) (readable false Expression e h) refl)
 
   -- a guard
   pub option_test : (e : Option Expr) → SoundOption place false e
-      → Perhaps place starts_plain ends_plain (S.behind piece (word piece Key.If) Named e)
-      (S.behind terminal (word terminal Key.If) Named e)
+      → Perhaps place starts_plain ends_plain (S.following piece (word piece Key.If) Named e)
+      (S.following terminal (word terminal Key.If) Named e)
   option_test None h = nothing
   option_test (Some e) h = some (plain_both (keyword Key.If) (readable false Named e h))
 
@@ -172,8 +172,8 @@ module _ {place : Place} where
   -- ---- Simple statements.
 
   pub raise_are : (e c : Option Expr) → SoundOption place false e → SoundOption place false c
-      → Plain place (word piece Key.Raise ∷ (S.perhaps_written piece Expression e ++ S.behind piece (word piece Key.From) Expression c))
-      (word terminal Key.Raise ∷ (S.perhaps_written terminal Expression e ++ S.behind terminal (word terminal Key.From) Expression c))
+      → Plain place (word piece Key.Raise ∷ (S.perhaps_written piece Expression e ++ S.following piece (word piece Key.From) Expression c))
+      (word terminal Key.Raise ∷ (S.perhaps_written terminal Expression e ++ S.following terminal (word terminal Key.From) Expression c))
   raise_are e c h i = word_plain Key.Raise (perhaps_both plain_suit (option_plain e h) (option_word Key.From c i))
 
   pub plain_listed : {xss : List (List Sited)} {tss : List (List Terminal)} → Each place starts_plain ends_plain xss tss
@@ -212,9 +212,9 @@ module _ {place : Place} where
 
   pub annotate_are : (t a : Expr) (e : Option Expr) (b : Bool) → Writable place false t → Writable place false a → SoundOption place true e
       → Closed place starts_plain ends_comma
-      (S.annotated piece t b ++ (trailing piece Colon ∷ (written piece Expression a ++ S.behind piece (free piece (Op Equal)) Value e)))
+      (S.annotated piece t b ++ (trailing piece Colon ∷ (written piece Expression a ++ S.following piece (free piece (Op Equal)) Value e)))
       (S.annotated terminal t b ++
-      (trailing terminal Colon ∷ (written terminal Expression a ++ S.behind terminal (free terminal (Op Equal)) Value e)))
+      (trailing terminal Colon ∷ (written terminal Expression a ++ S.following terminal (free terminal (Op Equal)) Value e)))
   annotate_are t a e b h i j = annotation_form (annotated_are t b h) (readable false Expression a i) (option_value e j)
 
   assert_form : {xs ys : List Sited} {ts us : List Terminal} → Plain place xs ts
@@ -224,8 +224,8 @@ module _ {place : Place} where
   assert_form x y = plain_both (keyword Key.Assert) (tail x y refl)
 
   pub assert_are : (e : Expr) (m : Option Expr) → Writable place false e → SoundOption place false m
-      → Plain place (word piece Key.Assert ∷ (written piece Expression e ++ S.behind piece (trailing piece Comma) Expression m))
-      (word terminal Key.Assert ∷ (written terminal Expression e ++ S.behind terminal (trailing terminal Comma) Expression m))
+      → Plain place (word piece Key.Assert ∷ (written piece Expression e ++ S.following piece (trailing piece Comma) Expression m))
+      (word terminal Key.Assert ∷ (written terminal Expression e ++ S.following terminal (trailing terminal Comma) Expression m))
   assert_are e m h i = assert_form (readable false Expression e h) (option_message m i)
 
   -- ---- Parameters of types.

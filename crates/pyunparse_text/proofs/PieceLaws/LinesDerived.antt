@@ -38,10 +38,10 @@ use Rattle.pyunparse_text.proofs.PieceLaws.SaidLists.{Closing}
 use Rattle.pyunparse_text.proofs.PieceLaws.LineClosings.{name_close, type_close, types_close, dotted_close, dotted_alias_close}
 use Rattle.pyunparse_text.proofs.PieceLaws.LineClosings.{name_alias_close}
 use Rattle.pyunparse_text.proofs.PieceLaws.LineClosings.{dots_close, targets_close, item_close, async_close}
-use Rattle.pygrammar.specs.OpenStrings.{Open, open_behind}
+use Rattle.pygrammar.specs.OpenStrings.{Open, open_following}
 use Rattle.pygrammar.proofs.Callers.OpenStrings.{expression_closes, target_closes, single_target_closes, del_target_closes, listing_closes}
 use Rattle.pygrammar.proofs.Callers.OpenStrings.{pattern_closes}
-use Rattle.pyunparse_text.proofs.PieceLaws.Derived.{Said, front, back, rest, first, behind, starred, stored_sound, sound, listing_fine}
+use Rattle.pyunparse_text.proofs.PieceLaws.Derived.{Said, front, back, rest, first, following, starred, stored_sound, sound, listing_fine}
 use Rattle.pyunparse_text.proofs.PieceLaws.Derived.{positional_sound, keywords_sound, arranged_sound}
 use Rattle.pyunparse_text.proofs.PieceLaws.Shapes.{keyword}
 use Rattle.pyunparse_text.proofs.PieceLaws.Readable.{readable, each_expression}
@@ -78,10 +78,10 @@ one_in [] h = refl
 one_in (c ∷ cs) h = let w = and_parts (is_xid_continue c) (pointless cs) h in let n = not_point c w.0 in let r =
     one_in cs w.1 in rw (n, r) refl
 
-names_behind : (t y : List ℕ) → pointless t ≡ true → names_in (t ++ (46 ∷ y)) ≡ t ∷ names_in y
-names_behind [] y h = refl
-names_behind (c ∷ cs) y h = let w = and_parts (is_xid_continue c) (pointless cs) h in let n = not_point c w.0 in let r =
-    names_behind cs y w.1 in rw (n, r) refl
+names_after : (t y : List ℕ) → pointless t ≡ true → names_in (t ++ (46 ∷ y)) ≡ t ∷ names_in y
+names_after [] y h = refl
+names_after (c ∷ cs) y h = let w = and_parts (is_xid_continue c) (pointless cs) h in let n = not_point c w.0 in let r =
+    names_after cs y w.1 in rw (n, r) refl
 
 abbrev SoundAlias : Alias → Type 0
 SoundAlias a = AreProper (names_in a.name) × MaybeProper a.asname
@@ -101,7 +101,7 @@ module _ {extent : Extent} (A : Type 0) (X : List Terminal → A → Type 0) (P 
   commas_said : {ts : List Terminal} {as_ : List A} → F.Commas A X ts as_ → Said extent [] ts → Q as_
   commas_said (F.alone {ts = ts} {a = a} p) h = more a [] (one ts a p h) none
   commas_said (F.comma {ts = ts} {us = us} {a = a} {as_ = as_} p c) h =
-      more a as_ (one ts a p (front ts (Op Sign.Comma ∷ us) h)) (commas_said c (behind ts us (Op Sign.Comma) (each ts a p) h))
+      more a as_ (one ts a p (front ts (Op Sign.Comma ∷ us) h)) (commas_said c (following ts us (Op Sign.Comma) (each ts a p) h))
 
   last_said : {ts : List Terminal} {as_ : List A} → F.Commas? A X ts as_ → Said extent [] ts → Q as_
   last_said (F.ends_bare c) h = commas_said c h
@@ -115,10 +115,10 @@ module _ (extent : Extent) where
   perhaps_said F.left_out h = tt
   perhaps_said (F.given p) h = sound extent p h
 
-  behind_said : {t : Terminal} {l : Level} {ts : List Terminal} {e : Option Expr} → ((o : Open) → open_behind o t ≡ o) → F.Behind t l ts e
+  after_said : {t : Terminal} {l : Level} {ts : List Terminal} {e : Option Expr} → ((o : Open) → open_following o t ≡ o) → F.Following t l ts e
       → Said extent [] ts → SoundOption (open_place extent) (star_place l) e
-  behind_said n F.none_behind h = tt
-  behind_said n (F.behind {ts = ts} p) h = sound extent p (subst (λ o. Said extent o ts) (n []) (rest h))
+  after_said n F.none_after h = tt
+  after_said n (F.following {ts = ts} p) h = sound extent p (subst (λ o. Said extent o ts) (n []) (rest h))
 
   as_said : {ts : List Terminal} {x : Option Identifier} → F.As ts x → Said extent [] ts → MaybeProper x
   as_said F.no_as h = tt
@@ -181,7 +181,7 @@ module _ (extent : Extent) where
       (λ e es p q. (p, q)) del_said (λ ts e p. del_target_closes p) c h
 
   type_said : (ts : List Terminal) (p : TypeParam) → F.TypeParamOf ts p → Said extent [] ts → SoundType (open_place extent) p
-  type_said _ _ (F.type_var b) h = (first h, behind_said (λ o. refl) b (rest h))
+  type_said _ _ (F.type_var b) h = (first h, after_said (λ o. refl) b (rest h))
   type_said _ _ F.type_var_tuple h = first (rest h)
   type_said _ _ F.param_spec h = first (rest h)
 
@@ -198,7 +198,7 @@ module _ (extent : Extent) where
   dotted_said (F.one_name {x = x}) h = let p : IsProper x.form = first h in
       subst AreProper (sym (one_in x.form (name_pointless x.form p.name))) (p, tt)
   dotted_said (F.dot_name {x = x} {y = y} d) h = let p : IsProper x.form = first h in
-      subst AreProper (sym (names_behind x.form y (name_pointless x.form p.name))) (p, dotted_said d (rest (rest h)))
+      subst AreProper (sym (names_after x.form y (name_pointless x.form p.name))) (p, dotted_said d (rest (rest h)))
 
   dotted_alias_said : (ts : List Terminal) (a : Alias) → F.DottedAlias ts a → Said extent [] ts → SoundAlias a
   dotted_alias_said _ _ (F.dotted_as {ts = ts} {us = us} p q) h = (dotted_said p (front ts us h), as_said q (back ts us (dotted_close p) h))
@@ -236,7 +236,7 @@ module _ (extent : Extent) where
       → AreWritable (open_place extent) true (exprs es)
   targets_said (F.last_target {ts = ts} p) h = (target_said p (front ts (Op Sign.Equal ∷ []) h), tt)
   targets_said (F.more_targets {ts = ts} {us = us} p c) h =
-      (target_said p (front ts (Op Sign.Equal ∷ us) h), targets_said c (behind ts us (Op Sign.Equal) (target_closes p) h))
+      (target_said p (front ts (Op Sign.Equal ∷ us) h), targets_said c (following ts us (Op Sign.Equal) (target_closes p) h))
 
   pub simple_read : {profile : Profile} {ts : List Terminal} {s : Stmt} → F.Simple profile ts s → Said extent [] ts
       → Reads extent (S.simple_tokens piece s) (S.simple_tokens terminal s)
@@ -245,36 +245,36 @@ module _ (extent : Extent) where
       closed_read (assign_are targets e (targets_said c (front ts us h)) (sound extent p (back ts us (targets_close c) h)))
   simple_read (F.augmented_assign {ts = ts} {us = us} x {o = o} {t = t} {e = e} p q r) h =
       closed_read (augment_are t o e (single_said p (front ts (Op x ∷ us) h))
-      (sound extent r (behind ts us (Op x) (single_target_closes p) h)))
+      (sound extent r (following ts us (Op x) (single_target_closes p) h)))
   simple_read (F.annotated_name {x = x} {ts = ts} {us = us} {a = a} {v = v} p q) h =
       let w = rest (rest h) in
       closed_read
       (annotate_are (Trees.Name x.form Store) a v true (first h) (sound extent p (front ts us w))
-      (behind_said (λ o. refl) q (back ts us (expression_closes p) w)))
+      (after_said (λ o. refl) q (back ts us (expression_closes p) w)))
   simple_read (F.annotated_group {ts = ts} {us = us} {vs = vs} {t = t} {a = a} {v = v} p q r) h =
-      let w = rest (behind ts (Op Sign.Colon ∷ (us ++ vs)) (Op Sign.RPar) (single_target_closes p) (rest h)) in
+      let w = rest (following ts (Op Sign.Colon ∷ (us ++ vs)) (Op Sign.RPar) (single_target_closes p) (rest h)) in
       closed_read
       (annotate_are t a v false (single_said p (front ts (Op Sign.RPar ∷ (Op Sign.Colon ∷ (us ++ vs))) (rest h)))
       (sound extent q (front us vs w))
-      (behind_said (λ o. refl) r (back us vs (expression_closes q) w)))
+      (after_said (λ o. refl) r (back us vs (expression_closes q) w)))
   simple_read (F.annotated_part {ts = ts} {us = us} {vs = vs} {t = t} {a = a} {v = v} p n q r) h =
-      let w = behind ts (us ++ vs) (Op Sign.Colon) (single_target_closes p) h in
+      let w = following ts (us ++ vs) (Op Sign.Colon) (single_target_closes p) h in
       closed_read
       (annotate_are t a v false (single_said p (front ts (Op Sign.Colon ∷ (us ++ vs)) h)) (sound extent q (front us vs w))
-      (behind_said (λ o. refl) r (back us vs (expression_closes q) w)))
+      (after_said (λ o. refl) r (back us vs (expression_closes q) w)))
   simple_read (F.type_alias {x = x} {ts = ts} {us = us} {ps = ps} {e = e} q c p) h =
       let w = rest (rest h) in
       closed_read
       (type_alias_are (Trees.Name x.form Store) ps e (first (rest h)) (types_said c (front ts (Op Sign.Equal ∷ us) w))
-      (sound extent p (behind ts us (Op Sign.Equal) (types_close c) w)))
+      (sound extent p (following ts us (Op Sign.Equal) (types_close c) w)))
   simple_read (F.return_of {e = e} p) h = closed_read (word_value Key.Return (option_stars e (perhaps_said p (rest h))))
   simple_read F.raise_alone h = closed_read (raise_are None None tt tt)
   simple_read (F.raise_of {ts = ts} {us = us} {e = e} {c = c} p q) h =
       closed_read
-      (raise_are (Some e) c (sound extent p (front ts us (rest h))) (behind_said (λ o. refl) q (back ts us (expression_closes p) (rest h))))
+      (raise_are (Some e) c (sound extent p (front ts us (rest h))) (after_said (λ o. refl) q (back ts us (expression_closes p) (rest h))))
   simple_read (F.assert_of {ts = ts} {us = us} {e = e} {m = m} p q) h =
       closed_read (assert_are e m (sound extent p (front ts us (rest h)))
-      (behind_said (λ o. refl) q (back ts us (expression_closes p) (rest h))))
+      (after_said (λ o. refl) q (back ts us (expression_closes p) (rest h))))
   simple_read (F.delete {es = es} c) h =
       closed_read (word_plain Key.Del (plain_listed (each_expression (exprs es) (deleted_said c (rest h)))))
   simple_read (F.global {xs = xs} c) h = closed_read (word_plain Key.Global (plain_listed (names_each xs (names_said c (rest h)))))
@@ -286,9 +286,9 @@ module _ (extent : Extent) where
   simple_read (F.from_module {ts = ts} {us = us} {vs = vs} {n = n} {m = m} {as_ = as_} p q c) h =
       let w = back ts (us ++ (Word Key.Import ∷ vs)) (dots_close p) (rest h) in
       from_read n m as_ (dotted_said q (front us (Word Key.Import ∷ vs) w))
-      (imported_said c (behind us vs (Word Key.Import) (dotted_close q) w))
+      (imported_said c (following us vs (Word Key.Import) (dotted_close q) w))
   simple_read (F.from_dots {ts = ts} {vs = vs} {n = n} {as_ = as_} p z c) h =
-      points_read n as_ z (imported_said c (behind ts vs (Word Key.Import) (dots_close p) (rest h)))
+      points_read n as_ z (imported_said c (following ts vs (Word Key.Import) (dots_close p) (rest h)))
 
   -- ---- Headers.
 
@@ -296,7 +296,7 @@ module _ (extent : Extent) where
       → Writable (open_place extent) false i.context_expr × SoundOption (open_place extent) true i.optional_vars
   item_said _ _ (F.bare_item p) h = (sound extent p h, tt)
   item_said _ _ (F.item_as {ts = ts} {us = us} p q) h =
-      (sound extent p (front ts (Word Key.As ∷ us) h), item_target_said q (behind ts us (Word Key.As) (expression_closes p) h))
+      (sound extent p (front ts (Word Key.As ∷ us) h), item_target_said q (following ts us (Word Key.As) (expression_closes p) h))
 
   abbrev SoundItem : Item → Type 0
   SoundItem i = Writable (open_place extent) false i.context_expr × SoundOption (open_place extent) true i.optional_vars
@@ -326,9 +326,9 @@ module _ (extent : Extent) where
   other_said F.else_line h = tt
   other_said (F.while_line p) h = sound extent p (rest h)
   other_said (F.for_line {ts = ts} {us = us} {vs = vs} a t p) h =
-      let w = behind ts (us ++ (Word Key.In ∷ vs)) (Word Key.For) (async_close a) h in
-      (target_said t (front us (Word Key.In ∷ vs) w), sound extent p (behind us vs (Word Key.In) (target_closes t) w))
-  other_said (F.with_line {ts = ts} {us = us} a p) h = items_said p (behind ts us (Word Key.With) (async_close a) h)
+      let w = following ts (us ++ (Word Key.In ∷ vs)) (Word Key.For) (async_close a) h in
+      (target_said t (front us (Word Key.In ∷ vs) w), sound extent p (following us vs (Word Key.In) (target_closes t) w))
+  other_said (F.with_line {ts = ts} {us = us} a p) h = items_said p (following ts us (Word Key.With) (async_close a) h)
   other_said F.try_line h = tt
   other_said F.finally_line h = tt
   other_said F.except_all h = (tt, tt)
@@ -337,13 +337,13 @@ module _ (extent : Extent) where
   other_said (F.except_star {ts = ts} {us = us} p q) h =
       (sound extent p (front ts us (rest (rest h))), as_said q (back ts us (expression_closes p) (rest (rest h))))
   other_said (F.def_line {ts = ts} {us = us} {vs = vs} {ws = ws} x {ps = ps} {a = args} y t c q r) h =
-      let n = behind ts (Ident x ∷ (us ++ (Op Sign.LPar ∷ (vs ++ (Op Sign.RPar ∷ ws))))) (Word Key.Def) (async_close y) h in
-      let w = behind us (vs ++ (Op Sign.RPar ∷ ws)) (Op Sign.LPar) (types_close t) (rest n) in (
+      let n = following ts (Ident x ∷ (us ++ (Op Sign.LPar ∷ (vs ++ (Op Sign.RPar ∷ ws))))) (Word Key.Def) (async_close y) h in
+      let w = following us (vs ++ (Op Sign.RPar ∷ ws)) (Op Sign.LPar) (types_close t) (rest n) in (
         first n,
         types_said t (front us (Op Sign.LPar ∷ (vs ++ (Op Sign.RPar ∷ ws)))
             (rest n)),
         arranged_sound extent ps args q (listing_fine extent c (front vs (Op Sign.RPar ∷ ws) w)),
-        behind_said (λ o. refl) r (behind vs ws (Op Sign.RPar) (listing_closes c) w),
+        after_said (λ o. refl) r (following vs ws (Op Sign.RPar) (listing_closes c) w),
       )
   other_said (F.class_line {ts = ts} {us = us} t b) h =
       let w = rest (rest h) in
@@ -354,7 +354,7 @@ module _ (extent : Extent) where
   header_said (other_head p) h = other_said p h
   header_said (match_head form w p) h = sound extent p (rest h)
   header_said (case_head w (F.case_line {ts = ts} {us = us} form p g)) h =
-      (pattern_sound extent p (front ts us (rest h)), behind_said (λ o. refl) g (back ts us (pattern_closes p) (rest h)))
+      (pattern_sound extent p (front ts us (rest h)), after_said (λ o. refl) g (back ts us (pattern_closes p) (rest h)))
 
   pub decorator_said : {ts : List Terminal} {e : Expr} → G.Derives Named ts e → Said extent [] ts → Writable (open_place extent) false e
   decorator_said p h = sound extent p h

@@ -12,7 +12,7 @@ use Rattle.pytoken.specs.Terminals.{Terminal, Op, Word, in_form}
 use Rattle.pyunparse_text.specs.Spacing.{Piece, is_token}
 use Rattle.pyunparse_text.specs.Written.{beside, element_level, tuple_level, free, leading, trailing, tight, listed, with_comma, tuple_of}
 use Rattle.pyunparse_text.specs.Written.{for_in}
-use Rattle.pyunparse_text.specs.Written.{behind_equal, with_defaults, with_slash, with_star}
+use Rattle.pyunparse_text.specs.Written.{after_equal, with_defaults, with_slash, with_star}
 use Rattle.pyunparse_text.specs.Terminals.{terminal}
 use Rattle.pyunparse_text.specs.Pieces.{Sited, piece}
 use Rattle.pylex_lexeme.specs.Operators.{operators}
@@ -239,7 +239,7 @@ module _ {place : Place} where
   maybes (more x xs) = a_maybe (some x) (maybes xs)
 
   pub equals : {xss : List (List Sited)} {tss : List (List Terminal)} → Each place starts_plain ends_plain xss tss
-      → Each place (tight piece Equal ∷ []) ends_plain (map (behind_equal piece) xss) (map (behind_equal terminal) tss)
+      → Each place (tight piece Equal ∷ []) ends_plain (map (after_equal piece) xss) (map (after_equal terminal) tss)
   unfolding operators
   equals none = none
   equals (more x xs) = more (join equal x refl) (equals xs)
@@ -278,16 +278,16 @@ module _ {place : Place} where
   inside_call true x y = x refl
   inside_call false x y = y
 
-  pub call_behind : {xs ys : List Sited} {ts us : List Terminal} → Plain place xs ts → Closed place (tight piece LPar ∷ []) ends_plain ys us
+  pub call_after : {xs ys : List Sited} {ts us : List Terminal} → Plain place xs ts → Closed place (tight piece LPar ∷ []) ends_plain ys us
       → Plain place (xs ++ ys) (ts ++ us)
   unfolding operators
-  call_behind x y = join x y refl
+  call_after x y = join x y refl
 
-  pub subscript_behind : {xs ys : List Sited} {ts us : List Terminal} → Plain place xs ts
+  pub subscript_after : {xs ys : List Sited} {ts us : List Terminal} → Plain place xs ts
       → Closed place (tight piece LSqb ∷ []) ends_plain ys us
       → Plain place (xs ++ ys) (ts ++ us)
   unfolding operators
-  subscript_behind x y = join x y refl
+  subscript_after x y = join x y refl
 
   -- signs and what stands after them
   pub step_form : {xs : List Sited} {ts : List Terminal} → Plain place xs ts

@@ -21,7 +21,7 @@ use Rattle.pytoken.specs.Terminals.{Terminal, is_of, terminal_of, terminals_of, 
 use Rattle.pytoken.specs.Laws.{is_byte, is_point}
 use Rattle.pytoken.proofs.Callers.Said.{points_are_in_range, points_small}
 use Rattle.pytoken.proofs.Callers.Bodies.{body_all, filter_all}
-use Rattle.pygrammar.specs.OpenStrings.{Open, open_behind, open_behind_all}
+use Rattle.pygrammar.specs.OpenStrings.{Open, open_following, open_after_all}
 use Rattle.pygrammar.proofs.Callers.OpenStrings.{terminals_close}
 use Rattle.pyunparse_text.specs.Laws.{AreOfTokens, no_token, a_token}
 use Rattle.pyunparse_text.proofs.PieceLaws.Places.{outside, open_place}
@@ -92,16 +92,16 @@ token_said extent k t c s f = by (is_fstring k t) refl
     by true q = formatted extent k q f
     by false q = let e = single_of extent k t q f in rw q (also (single_sayable extent k t c s e) none)
 
-said_both : {extent : Extent} {o : Open} (ts us : List Terminal) → open_behind_all o ts ≡ o → Said extent o ts → Said extent o us
+said_both : {extent : Extent} {o : Open} (ts us : List Terminal) → open_after_all o ts ≡ o → Said extent o ts → Said extent o us
     → Said extent o (ts ++ us)
 said_both {extent} {o} ts us c h k = joined o ts us h (subst (λ x. Said extent x us) (sym c) k)
   where
-    joined : (o : Open) (ts us : List Terminal) → Said extent o ts → Said extent (open_behind_all o ts) us → Said extent o (ts ++ us)
+    joined : (o : Open) (ts us : List Terminal) → Said extent o ts → Said extent (open_after_all o ts) us → Said extent o (ts ++ us)
     joined o [] us none k = k
-    joined o (t ∷ ts) us (also s h) k = also s (joined (open_behind o t) ts us h k)
+    joined o (t ∷ ts) us (also s h) k = also s (joined (open_following o t) ts us h k)
 
 pub of_tokens : {extent : Extent} {ts : List Terminal} → AreOfTokens extent ts → Said extent [] ts
 of_tokens no_token = none
 of_tokens {extent} (a_token {k = k} {text = t} {ts = ts} {us = us} c g h) =
     let said : Said extent [] ts = subst (Said extent []) g.terminals (token_said extent k t c g.sound.of_kind g.faultless) in
-    said_both ts us (ap (open_behind_all []) (sym g.terminals) ∙ terminals_close k t []) said (of_tokens h)
+    said_both ts us (ap (open_after_all []) (sym g.terminals) ∙ terminals_close k t []) said (of_tokens h)

@@ -80,7 +80,7 @@ GivesIn extent in_two k text ts = GivesInTwo k text ts
 abbrev pub GivesAt : Place → Kind → List ℕ → List Terminal → Type 0
 GivesAt place k text ts = GivesIn place.extent place.depth k text ts
 
--- how many brackets are open behind terminals
+-- how many brackets are open after terminals
 abbrev pub depth_after : ℕ → List Terminal → ℕ
 depth_after d [] = d
 depth_after d (t ∷ ts) = depth_after (open_after d t) ts

@@ -17,7 +17,7 @@ use Rattle.pytree_node.specs.Trees.{OptionalArg, absent_arg, present_arg, Argume
 use Rattle.pytoken.specs.Terminals.{Terminal, in_form}
 use Rattle.pygrammar.specs.Operators.{below, chain_level, chain_word}
 use Rattle.pyunparse_text.specs.Levels.{operator_level, left_level, right_level, unary_level}
-use Rattle.pyunparse_text.specs.Written.{free, compared, is_unicode, first_text, elements_behind, spec_elements, star_level, some_named}
+use Rattle.pyunparse_text.specs.Written.{free, compared, is_unicode, first_text, elements_after, spec_elements, star_level, some_named}
 use Rattle.pyunparse_text.specs.Written.{lone_star}
 use Rattle.pyunparse_text.specs.Written.{element_level, lone_generator, trailing, tight, written, each, perhaps, suffixed, alone, by_name}
 use Rattle.pyunparse_text.specs.Written.{written_keys, pairs, clauses, conditions, parameters, names, gathered, defaults}
@@ -27,7 +27,7 @@ use Rattle.pyunparse_text.proofs.PieceLaws.Sound.{HasStrings, is_spec, SoundValu
 use Rattle.pyunparse_text.proofs.PieceLaws.Sound.{WritableOptionals, WritableClauses, WritableKeywords, WritableArgs, WritableArg}
 use Rattle.pyunparse_text.proofs.PieceLaws.Sound.{WritableArguments}
 use Rattle.pyunparse_text.proofs.PieceLaws.Places.{Place, inside}
-use Rattle.pyunparse_text.proofs.PieceLaws.Formatted.{Promised, text, Behind, no_field, field, Specified, no_spec, a_spec}
+use Rattle.pyunparse_text.proofs.PieceLaws.Formatted.{Promised, text, Following, no_field, field, Specified, no_spec, a_spec}
 use Rattle.pyunparse_text.proofs.PieceLaws.Shut.{Shut, AllShut, none as nothing_shut, also, shut_separated, is_operand, shut_none, shut_one}
 use Rattle.pyunparse_text.proofs.PieceLaws.Shut.{shut_both, shut_fit, shut_outer, shut_group, shut_square, shut_braces, shut_called}
 use Rattle.pyunparse_text.proofs.PieceLaws.Shut.{shut_indexed}
@@ -53,7 +53,7 @@ use Rattle.pyunparse_text.proofs.PieceLaws.Listings.{a_key, for_form, target_for
 use Rattle.pyunparse_text.proofs.PieceLaws.Listings.{a_maybe}
 use Rattle.pyunparse_text.proofs.PieceLaws.Listings.{beside_are, equals, with_defaults_are, with_slash_are, star_are, inside_plain}
 use Rattle.pyunparse_text.proofs.PieceLaws.Listings.{inside_call}
-use Rattle.pyunparse_text.proofs.PieceLaws.Listings.{call_behind, subscript_behind, step_form, annotation_form, default_form}
+use Rattle.pyunparse_text.proofs.PieceLaws.Listings.{call_after, subscript_after, step_form, annotation_form, default_form}
 use Rattle.pyunparse_text.proofs.PieceLaws.Listings.{star_parameter}
 use Rattle.pyunparse_text.proofs.PieceLaws.Listings.{stars_parameter, parameters_each}
 
@@ -62,7 +62,7 @@ abbrev pub Done : Place → Bool → Level → Expr → Type 0
 Done place s l e = Closed place (starts s l) (ends l) (written piece l e) (written terminal l e)
 
 mutual
-  unfolding written elements_behind spec_elements each perhaps suffixed alone by_name written_keys pairs clauses conditions
+  unfolding written elements_after spec_elements each perhaps suffixed alone by_name written_keys pairs clauses conditions
       parameters names gathered defaults
 
   pub readable : {place : Place} → (s : Bool) (l : Level) (e : Expr) → Writable place s e → Done place s l e
@@ -87,15 +87,15 @@ mutual
   readable s l (Trees.Attribute e x c) h = fitted s l Primary (attribute_form x h.1 (readable false Primary e h.0))
   readable s l (Trees.Call f es ks) h =
       fitted s l Primary
-      (call_behind (readable false Primary f h.0)
+      (call_after (readable false Primary f h.0)
       (called (inside_call (lone_generator es ks) (alone_is es ks h.1)
       (items_listed (each_both (each_are Named es h.1) (by_name_are ks h.2))))))
   readable s l (Trees.Subscript e i c) h =
-      fitted s l Primary (subscript_behind (readable false Primary e h.0) (indexed (some (readable false Slices i h.1))))
+      fitted s l Primary (subscript_after (readable false Primary e h.0) (indexed (some (readable false Slices i h.1))))
   readable s l (Trees.Name x c) h = plainly s l (plain_name x h)
   readable s l (Trees.Constant v) h = plainly s l (constant v h)
   readable {place} s l (Trees.JoinedStr es) h =
-      plainly s l (joined_form (is_unicode es) (first_text es) h.0 (first_formatted place 0 es h.0 h.1) (behind_are place h.0 0 es h.1))
+      plainly s l (joined_form (is_unicode es) (first_text es) h.0 (first_formatted place 0 es h.0 h.1) (after_are place h.0 0 es h.1))
   readable s l (Trees.FormattedValue e c sp) h = absurd h
   readable s l (Trees.Tuple es c) h = tuple_form s l (some_named es) (lone_star es) (each_are (element_level l (some_named es)) es h)
   readable s l (Trees.GeneratorExp e gs) h =
@@ -223,21 +223,21 @@ mutual
 
   -- ---- F-strings.
 
-  behind_are : (place : Place) → HasStrings place.extent place.depth → (n : ℕ) (es : Exprs) → SoundValues place.extent place.depth n es
-      → Behind (Promised place.depth) place.depth n (elements_behind piece (is_spec n) es) (elements_behind terminal (is_spec n) es)
-  behind_are place s n no_exprs h = no_field
-  behind_are place s n (an_expr (Trees.FormattedValue e c sp) es) h =
+  after_are : (place : Place) → HasStrings place.extent place.depth → (n : ℕ) (es : Exprs) → SoundValues place.extent place.depth n es
+      → Following (Promised place.depth) place.depth n (elements_after piece (is_spec n) es) (elements_after terminal (is_spec n) es)
+  after_are place s n no_exprs h = no_field
+  after_are place s n (an_expr (Trees.FormattedValue e c sp) es) h =
       let value = field_read place s (readable {place = inside place} false Or e h.0.1) (shut (inside place) Or refl e h.0.1) in
-      field h.0.0 value (spec_is place s n sp h.0.2) (text (first_formatted place n es s h.1) (behind_are place s n es h.1))
-  behind_are place s n (an_expr (Trees.Constant (Values.Str t u)) es) h = behind_are place s n es h.1
-  behind_are place s n (an_expr e es) h = absurd h.0
+      field h.0.0 value (spec_is place s n sp h.0.2) (text (first_formatted place n es s h.1) (after_are place s n es h.1))
+  after_are place s n (an_expr (Trees.Constant (Values.Str t u)) es) h = after_are place s n es h.1
+  after_are place s n (an_expr e es) h = absurd h.0
 
   spec_is : (place : Place) → HasStrings place.extent place.depth → (n : ℕ) (sp : OptionalExpr)
       → SoundSpec place.extent place.depth (suc n) sp
       → Specified (Promised place.depth) place.depth n (spec_elements piece sp) (spec_elements terminal sp)
   spec_is place s n absent h = no_spec
   spec_is place s n (present (Trees.JoinedStr es)) h =
-      a_spec (text (first_formatted place (suc n) es s h) (behind_are place s (suc n) es h))
+      a_spec (text (first_formatted place (suc n) es s h) (after_are place s (suc n) es h))
   spec_is place s n (present e) h = absurd h
 
   -- ---- In fields.
@@ -279,7 +279,7 @@ mutual
       shut_fit l Primary (shut_both (shut place Primary refl e h.0) (shut_indexed (held (readable {place = place} false Slices i h.1))))
   shut place l o (Trees.Name x c) h = shut_one (free piece (in_form x)) refl refl refl
   shut place l o (Trees.Constant v) h = shut_constant v
-  shut place l o (Trees.JoinedStr es) h = shut_joined (is_unicode es) (first_text es) (elements_behind piece false es)
+  shut place l o (Trees.JoinedStr es) h = shut_joined (is_unicode es) (first_text es) (elements_after piece false es)
   shut place l o (Trees.FormattedValue e c sp) h = absurd h
   shut place l o (Trees.Tuple es c) h =
       let w = tuple_bracketed l (some_named es) o in

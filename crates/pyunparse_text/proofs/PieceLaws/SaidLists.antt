@@ -16,7 +16,7 @@ use Rattle.pytree_node.specs.declared.operators.UnaryOperator.TheVariants as Un
 use Rattle.pygrammar.specs.declared.levels.Level.{Level}
 use Rattle.pytoken.specs.Terminals.{Terminal}
 use Rattle.pygrammar.specs.Operators.{left_operator, prefix_operator}
-use Rattle.pygrammar.specs.OpenStrings.{Open, open_behind, open_behind_all}
+use Rattle.pygrammar.specs.OpenStrings.{Open, open_following, open_after_all}
 use Rattle.pyunparse_text.specs.Levels.{operator_sign, unary_sign}
 use Rattle.pytree_node.specs.Points.{IsPoint}
 use Rattle.pytoken.specs.Laws.{is_point}
@@ -32,14 +32,14 @@ use Rattle.pyunparse_text.proofs.PieceLaws.Sayings.{Sayable}
 -- the terminals of some tokens can be said, where these f-strings are open before them
 pub data Said (extent : Extent) : Open → List Terminal → Type 0 where
   none : {o : Open} → Said extent o []
-  also : {o : Open} {t : Terminal} {ts : List Terminal} → Sayable extent o t → Said extent (open_behind o t) ts → Said extent o (t ∷ ts)
+  also : {o : Open} {t : Terminal} {ts : List Terminal} → Sayable extent o t → Said extent (open_following o t) ts → Said extent o (t ∷ ts)
 
 -- the f-strings that a list opens it closes
 abbrev pub Closing : List Terminal → Type 0
-Closing ts = (o : Open) → open_behind_all o ts ≡ o
+Closing ts = (o : Open) → open_after_all o ts ≡ o
 
 abbrev pub IsQuiet : Terminal → Type 0
-IsQuiet t = (o : Open) → open_behind o t ≡ o
+IsQuiet t = (o : Open) → open_following o t ≡ o
 
 sign_quiet : (o : Operator) → IsQuiet (operator_sign o)
 sign_quiet Bin.Add _ = refl
@@ -71,27 +71,27 @@ unary_quiet l t o h = subst IsQuiet (prefixed l t o h).sign (prefix_quiet o)
 module _ {extent : Extent} where
   pub front : {o : Open} (ts us : List Terminal) → Said extent o (ts ++ us) → Said extent o ts
   front [] us h = none
-  front {o = o} (t ∷ ts) us (also s h) = also s (front {o = open_behind o t} ts us h)
+  front {o = o} (t ∷ ts) us (also s h) = also s (front {o = open_following o t} ts us h)
 
-  further : {o : Open} (ts us : List Terminal) → Said extent o (ts ++ us) → Said extent (open_behind_all o ts) us
+  further : {o : Open} (ts us : List Terminal) → Said extent o (ts ++ us) → Said extent (open_after_all o ts) us
   further [] us h = h
-  further {o = o} (t ∷ ts) us (also s h) = further {o = open_behind o t} ts us h
+  further {o = o} (t ∷ ts) us (also s h) = further {o = open_following o t} ts us h
 
   pub back : {o : Open} (ts us : List Terminal) → Closing ts → Said extent o (ts ++ us) → Said extent o us
   back {o} ts us c h = subst (λ x. Said extent x us) (c o) (further ts us h)
 
-  pub rest : {o : Open} {t : Terminal} {ts : List Terminal} → Said extent o (t ∷ ts) → Said extent (open_behind o t) ts
+  pub rest : {o : Open} {t : Terminal} {ts : List Terminal} → Said extent o (t ∷ ts) → Said extent (open_following o t) ts
   rest (also s h) = h
 
   pub first : {o : Open} {t : Terminal} {ts : List Terminal} → Said extent o (t ∷ ts) → Sayable extent o t
   first (also s h) = s
 
   -- after some terminals and one more
-  pub behind : {o : Open} (ts us : List Terminal) (t : Terminal) → Closing ts → Said extent o (ts ++ (t ∷ us))
-      → Said extent (open_behind o t) us
-  behind ts us t c h = rest (back ts (t ∷ us) c h)
+  pub following : {o : Open} (ts us : List Terminal) (t : Terminal) → Closing ts → Said extent o (ts ++ (t ∷ us))
+      → Said extent (open_following o t) us
+  following ts us t c h = rest (back ts (t ∷ us) c h)
 
-  pub quiet : {o : Open} {ts : List Terminal} (t : Terminal) → IsQuiet t → Said extent (open_behind o t) ts → Said extent o ts
+  pub quiet : {o : Open} {ts : List Terminal} (t : Terminal) → IsQuiet t → Said extent (open_following o t) ts → Said extent o ts
   quiet {o} {ts} t q h = subst (λ x. Said extent x ts) (q o) h
 
 pub text_both : (d : Depth) (t r : List ℕ) → HasText d t → HasText d r → HasText d (t ++ r)

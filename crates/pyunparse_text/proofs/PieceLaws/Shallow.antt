@@ -18,9 +18,9 @@ first_open d [] = omega arith
 first_open d (t ∷ ts) = omega arith
 
 -- what is open further on
-open_behind : (d : ℕ) (ts us : List Terminal) → most_open (depth_after d ts) us ≤ most_open d (ts ++ us)
-open_behind d [] us = omega arith
-open_behind d (t ∷ ts) us = let h = open_behind (open_after d t) ts us in omega (arith, h)
+open_following : (d : ℕ) (ts us : List Terminal) → most_open (depth_after d ts) us ≤ most_open d (ts ++ us)
+open_following d [] us = omega arith
+open_following d (t ∷ ts) us = let h = open_following (open_after d t) ts us in omega (arith, h)
 
 one_more : (most d : ℕ) (ts : List Terminal) (ps : List Piece) → ((n : ℕ) → most_open n ts ≤ most → opens_within most n ps ≡ true)
     → (o s : Bool)
@@ -40,7 +40,7 @@ pub shallow : {place : Place} (most d : ℕ) {ps : List Piece} {ts : List Termin
     → opens_within most d ps ≡ true
 shallow most d none_given h = refl
 shallow most d (given {p = p} {ps = ps} {ts = ts} {us = us} g s c) h =
-    let b = open_behind d ts us in
+    let b = open_following d ts us in
     let k : most_open (depth_after d ts) us ≤ most = omega (arith, b, h) in
     one_more most d us ps (λ n q. shallow most n c q) (opens p) (closes p) (subst (λ n. most_open n us ≤ most) (s.is d) k)
 
@@ -90,7 +90,7 @@ low_front ts us h q =
 pub low_back : (ts us : List Terminal) → Flat ts → Low (ts ++ us) → Low us
 low_back ts us f h q =
     let n = h (formatted_back ts us q) in
-    let b = open_behind 0 ts us in
+    let b = open_following 0 ts us in
     let e = f.is 0 in
     let k : most_open 0 us ≤ most_open 0 (ts ++ us) = subst (λ n. most_open n us ≤ most_open 0 (ts ++ us)) e b in
     omega (arith, k, n)
@@ -104,7 +104,7 @@ few_at d ts us h =
 
 pub low_rest : (d : ℕ) (ts us : List Terminal) → Flat ts → most_open d (ts ++ us) ≤ 599 → most_open d us ≤ 599
 low_rest d ts us f h =
-    let b = open_behind d ts us in
+    let b = open_following d ts us in
     let k : most_open d us ≤ most_open d (ts ++ us) = subst (λ n. most_open n us ≤ most_open d (ts ++ us)) (f.is d) b in
     omega (arith, k, h)
 
@@ -114,6 +114,6 @@ low_next d t ts h = omega (arith, h)
 pub front_low : (d : ℕ) (ts us : List Terminal) → most_open d (ts ++ us) ≤ 599 → most_open d ts ≤ 599
 front_low d ts us h = let f = front_open d ts us in omega (arith, f, h)
 
--- behind a sign
+-- after a sign
 pub low_inside : (x : Exact) (ts us : List Terminal) → Low (Op x ∷ (ts ++ us)) → Low ts
 low_inside x ts us h q = few_at (open_after 0 (Op x)) ts us (low_next 0 (Op x) (ts ++ us) (h (formatted_front ts us q)))

@@ -50,8 +50,8 @@ abbrev pub ends_parameter : List Sited
 ends_parameter = free piece (Op Slash) ∷ leading piece Star ∷ ends_plain
 
 -- comparisons
-abbrev pub starts_behind : List Sited
-starts_behind =
+abbrev pub starts_after : List Sited
+starts_after =
     a_word ∷ free piece (Op EqEqual) ∷ free piece (Op NotEqual) ∷ free piece (Op Less) ∷ free piece (Op LessEqual) ∷ free piece (Op Greater)
     ∷ free piece (Op GreaterEqual) ∷ []
 
@@ -221,39 +221,39 @@ module _ {place : Place} where
       refl
 
   pub signs_form : (o : Comparison)
-      → Closed place starts_behind starts_behind (map (free piece) (comparison_signs o)) (map (free terminal) (comparison_signs o))
+      → Closed place starts_after starts_after (map (free piece) (comparison_signs o)) (map (free terminal) (comparison_signs o))
   unfolding operators
-  signs_form Is.Eq = sign starts_behind starts_behind EqEqual false false refl refl refl
-  signs_form Is.NotEq = sign starts_behind starts_behind NotEqual false false refl refl refl
-  signs_form Is.Lt = sign starts_behind starts_behind Less false false refl refl refl
-  signs_form Is.LtE = sign starts_behind starts_behind LessEqual false false refl refl refl
-  signs_form Is.Gt = sign starts_behind starts_behind Greater false false refl refl refl
-  signs_form Is.GtE = sign starts_behind starts_behind GreaterEqual false false refl refl refl
-  signs_form Is.Is = token starts_behind starts_behind (Word Key.Is) false false (fair_word Key.Is) refl refl refl refl
-  signs_form Is.Within = token starts_behind starts_behind (Word Key.In) false false (fair_word Key.In) refl refl refl refl
+  signs_form Is.Eq = sign starts_after starts_after EqEqual false false refl refl refl
+  signs_form Is.NotEq = sign starts_after starts_after NotEqual false false refl refl refl
+  signs_form Is.Lt = sign starts_after starts_after Less false false refl refl refl
+  signs_form Is.LtE = sign starts_after starts_after LessEqual false false refl refl refl
+  signs_form Is.Gt = sign starts_after starts_after Greater false false refl refl refl
+  signs_form Is.GtE = sign starts_after starts_after GreaterEqual false false refl refl refl
+  signs_form Is.Is = token starts_after starts_after (Word Key.Is) false false (fair_word Key.Is) refl refl refl refl
+  signs_form Is.Within = token starts_after starts_after (Word Key.In) false false (fair_word Key.In) refl refl refl refl
   signs_form Is.IsNot =
-      join (token starts_behind starts_behind (Word Key.Is) false false (fair_word Key.Is) refl refl refl refl)
-      (token starts_behind starts_behind (Word Key.Not) false false (fair_word Key.Not) refl refl refl refl) refl
+      join (token starts_after starts_after (Word Key.Is) false false (fair_word Key.Is) refl refl refl refl)
+      (token starts_after starts_after (Word Key.Not) false false (fair_word Key.Not) refl refl refl refl) refl
   signs_form Is.NotIn =
-      join (token starts_behind starts_behind (Word Key.Not) false false (fair_word Key.Not) refl refl refl refl)
-      (token starts_behind starts_behind (Word Key.In) false false (fair_word Key.In) refl refl refl refl) refl
+      join (token starts_after starts_after (Word Key.Not) false false (fair_word Key.Not) refl refl refl refl)
+      (token starts_after starts_after (Word Key.In) false false (fair_word Key.In) refl refl refl refl) refl
 
   -- a comparison's signs, each with what stands after it
   pub compared_more : (o : Comparison) {xs ys : List Sited} {ts us : List Terminal} → Plain place xs ts
-      → Perhaps place starts_behind ends_plain ys us
-      → Closed place starts_behind ends_plain (map (free piece) (comparison_signs o) ++ (xs ++ ys))
+      → Perhaps place starts_after ends_plain ys us
+      → Closed place starts_after ends_plain (map (free piece) (comparison_signs o) ++ (xs ++ ys))
       (map (free terminal) (comparison_signs o) ++ (ts ++ us))
   unfolding operators
   compared_more o x y = join (signs_form o) (tail x y refl) refl
 
-  pub compare_form : {xs ys : List Sited} {ts us : List Terminal} → Plain place xs ts → Perhaps place starts_behind ends_plain ys us
+  pub compare_form : {xs ys : List Sited} {ts us : List Terminal} → Plain place xs ts → Perhaps place starts_after ends_plain ys us
       → Plain place (xs ++ ys) (ts ++ us)
   unfolding operators
   compare_form x y = tail x y refl
 
   pub compared_are : (os : List Comparison) {xss : List (List Sited)} {tss : List (List Terminal)}
       → Each place starts_plain ends_plain xss tss
-      → Perhaps place starts_behind ends_plain (compared piece os xss) (compared terminal os tss)
+      → Perhaps place starts_after ends_plain (compared piece os xss) (compared terminal os tss)
   compared_are [] none = nothing
   compared_are [] (more x xs) = nothing
   compared_are (o ∷ os) none = nothing

@@ -29,7 +29,7 @@ abbrev alike_pieces : Piece → Piece → Bool
 alike_pieces x p =
     same (is_operator_kind x.kind) (is_operator_kind p.kind) && (same (is_number_kind x.kind)
     (is_number_kind p.kind) &&
-    (same x.before p.before && (same x.behind p.behind && (not (is_operator_kind x.kind) || bytes_eq p.text x.text))))
+    (same x.before p.before && (same x.following p.following && (not (is_operator_kind x.kind) || bytes_eq p.text x.text))))
 
 abbrev is_among : List Piece → Piece → Bool
 is_among xs p = list_any (λ x. alike_pieces x p) xs
@@ -42,7 +42,7 @@ apart x y =
     else is_operator_kind y.kind && (bytes_eq y.text (codes ".") || not (is_number_kind x.kind && bytes_eq (take 1 y.text) (codes ".")))
 
 abbrev pub suits : Piece → Piece → Bool
-suits x y = not (x.behind || y.before) || apart x y
+suits x y = not (x.following || y.before) || apart x y
 
 abbrev all_suit : List Piece → List Piece → Bool
 all_suit xs ys = list_all (λ x. list_all (suits x) ys) xs
@@ -51,7 +51,7 @@ record Alike (x p : Piece) : Type 0 where
   operator : is_operator_kind p.kind ≡ is_operator_kind x.kind
   number : is_number_kind p.kind ≡ is_number_kind x.kind
   before : p.before ≡ x.before
-  behind : p.behind ≡ x.behind
+  following : p.following ≡ x.following
   text : is_operator_kind x.kind ≡ true → bytes_eq p.text x.text ≡ true
 
 same_is : (a b : Bool) → same a b ≡ true → b ≡ a
@@ -64,12 +64,12 @@ alike x p e =
     let a = and_parts (same (is_operator_kind x.kind) (is_operator_kind p.kind)) _ e in
     let b = and_parts (same (is_number_kind x.kind) (is_number_kind p.kind)) _ a.1 in
     let c = and_parts (same x.before p.before) _ b.1 in
-    let d = and_parts (same x.behind p.behind) (not (is_operator_kind x.kind) || bytes_eq p.text x.text) c.1 in
+    let d = and_parts (same x.following p.following) (not (is_operator_kind x.kind) || bytes_eq p.text x.text) c.1 in
     record {
       operator = same_is (is_operator_kind x.kind) (is_operator_kind p.kind) a.0;
       number = same_is (is_number_kind x.kind) (is_number_kind p.kind) b.0;
       before = same_is x.before p.before c.0;
-      behind = same_is x.behind p.behind d.0;
+      following = same_is x.following p.following d.0;
       text = λ o. rw o at d.1;
     }
 
@@ -77,7 +77,7 @@ chosen : (o a b : Bool) → o ≡ true → (if o then a else b) ≡ true → a �
 chosen true a b o e = e
 chosen false a b o e = cc
 
-loose : (p q : Piece) → (p.behind || q.before) ≡ false → fit p q ≡ true
+loose : (p q : Piece) → (p.following || q.before) ≡ false → fit p q ≡ true
 loose p q e = let t : touches p q ≡ false = rw e refl in or_left (not (touches p q)) (stay_apart p q) (rw t refl)
 
 -- what suits fits
@@ -85,7 +85,7 @@ suits_fit : (x y p q : Piece) → Alike x p → Alike y q → is_token p.kind p.
     → fit p q ≡ true
 suits_fit x y p q a b s t e =
     ⊎_elim
-    (λ (n : not (x.behind || y.before) ≡ true). loose p q (rw (a.behind, b.before) (not-true (x.behind || y.before) n)))
+    (λ (n : not (x.following || y.before) ≡ true). loose p q (rw (a.following, b.before) (not-true (x.following || y.before) n)))
     (λ (h : apart x y ≡ true).
     ⊎_elim
     (λ (ox : is_operator_kind x.kind ≡ true).
@@ -95,7 +95,7 @@ suits_fit x y p q a b s t e =
     (λ (oy : is_operator_kind y.kind ≡ true).
     let ty : q.text ≡ y.text = (bytes_eq-Decides q.text y.text).0 (b.text oy) in
     let f : fit x y ≡ true = chosen (is_operator_kind y.kind) (fit x y) _ oy (chosen (is_operator_kind x.kind) _ _ ox h) in
-    rw (a.behind, b.before, a.number, b.number, b.behind, tx, ty, a.operator, b.operator) f)
+    rw (a.following, b.before, a.number, b.number, b.following, tx, ty, a.operator, b.operator) f)
     (λ (oy : is_operator_kind y.kind ≡ false).
     let qo : is_operator_kind q.kind ≡ false = rw b.operator oy in
     let f : not (bytes_eq x.text (codes ".") && is_number_kind y.kind) ≡ true = rw (ox, oy) at h in
@@ -120,7 +120,7 @@ suits_fit x y p q a b s t e =
     (λ (d : bytes_eq y.text (codes ".") ≡ true).
     let pn : is_number_kind p.kind ≡ true = rw a.number i in
     let qd : bytes_eq q.text (codes ".") ≡ true = rw ty d in
-    let u : touches p q ≡ false = rw (pn, qd) (none (p.behind || q.before) _) in
+    let u : touches p q ≡ false = rw (pn, qd) (none (p.following || q.before) _) in
     or_left (not (touches p q)) (stay_apart p q) (rw u refl))
     (λ (d : not (is_number_kind x.kind && bytes_eq (take 1 y.text) (codes ".")) ≡ true).
     let c : not (is_number_kind p.kind && bytes_eq (take 1 q.text) (codes ".")) ≡ true = rw (a.number, ty) d in
@@ -133,7 +133,7 @@ suits_fit x y p q a b s t e =
     or_right (not (touches p q)) (stay_apart p q) r)
     (cases_Bool (is_number_kind x.kind)))
     (cases_Bool (is_operator_kind x.kind)))
-    (or_cases (not (x.behind || y.before)) (apart x y) e)
+    (or_cases (not (x.following || y.before)) (apart x y) e)
   where
     none : (a b : Bool) → (a && false && b) ≡ false
     none true b = refl
@@ -183,10 +183,10 @@ sorts_fit xs ys e p q a b =
 
 -- Sets
 abbrev pub a_word : Sited
-a_word is_in_field = record { kind = kinds.Name; text = []; before = false; behind = false }
+a_word is_in_field = record { kind = kinds.Name; text = []; before = false; following = false }
 
 abbrev pub a_number : Sited
-a_number is_in_field = record { kind = kinds.Number; text = []; before = false; behind = false }
+a_number is_in_field = record { kind = kinds.Number; text = []; before = false; following = false }
 
 -- what an expression begins with, words aside
 abbrev pub starts_other : List Sited

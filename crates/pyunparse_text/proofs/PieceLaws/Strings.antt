@@ -41,7 +41,7 @@ use Rattle.pyunparse_text.proofs.PieceLaws.Places.{Depth, outside, in_field, in_
 use Rattle.pyunparse_text.proofs.PieceLaws.Places.{GiveAt}
 use Rattle.pyunparse_text.proofs.PieceLaws.Places.{none_given, given}
 use Rattle.pyunparse_text.proofs.PieceLaws.Sound.{HasStrings, HasFormatted, is_spec}
-use Rattle.pyunparse_text.proofs.PieceLaws.Formatted.{whole, IsField, Elements, text, Behind, no_field, field, Specified, no_spec, a_spec}
+use Rattle.pyunparse_text.proofs.PieceLaws.Formatted.{whole, IsField, Elements, text, Following, no_field, field, Specified, no_spec, a_spec}
 
 -- an f-string of this depth is one token, and gives these terminals
 pub record IsString (d : Depth) (source : List ℕ) (ts : List Terminal) : Type 0 where
@@ -177,12 +177,12 @@ module _ {d : Depth} (o : IsOpen d) where
   mutual
     elements_give : {n : ℕ} {es : List (Element Sited)} {fs : List (Element Terminal)} → Elements (IsField d) d n es fs
         → all_terminals (given_by (by_depth d)) es ≡ fs
-    elements_give (text {n = n} {t = t} h b) = ap (λ fs. Text (is_spec n) t ∷ fs) (behind_give b)
+    elements_give (text {n = n} {t = t} h b) = ap (λ fs. Text (is_spec n) t ∷ fs) (after_give b)
 
-    behind_give : {n : ℕ} {es : List (Element Sited)} {fs : List (Element Terminal)} → Behind (IsField d) d n es fs
+    after_give : {n : ℕ} {es : List (Element Sited)} {fs : List (Element Terminal)} → Following (IsField d) d n es fs
         → all_terminals (given_by (by_depth d)) es ≡ fs
-    behind_give no_field = refl
-    behind_give (field {c = c} {ss = ss} {es = es} h f s e) =
+    after_give no_field = refl
+    after_give (field {c = c} {ss = ss} {es = es} h f s e) =
         let g = given_by (by_depth d) in
         ap₂ (λ ts fs. Field c ts ∷ fs) (field_gives o f)
         (all_both g (ss ++ (End ∷ [])) es ∙ ap₂ (λ x y. x ++ y) (all_both g ss (End ∷ []) ∙ ap (λ x. x ++ (End ∷ [])) (spec_give s))
@@ -200,11 +200,11 @@ Turns b fs = (rest : List (Element Terminal)) → padded b (fs ++ rest) ≡ flat
 module _ {d : Depth} where
   mutual
     elements_turn : {n : ℕ} {es : List (Element Sited)} {fs : List (Element Terminal)} → Elements (IsField d) d n es fs → Turns true fs
-    elements_turn (text {t = t} h b) rest = ap (λ ts. FormattedText t ∷ ts) (behind_turn b rest)
+    elements_turn (text {t = t} h b) rest = ap (λ ts. FormattedText t ∷ ts) (after_turn b rest)
 
-    behind_turn : {n : ℕ} {es : List (Element Sited)} {fs : List (Element Terminal)} → Behind (IsField d) d n es fs → Turns false fs
-    behind_turn no_field rest = refl
-    behind_turn (field {c = c} {ts = ts} {us = us} {fs = fs} h f s e) rest =
+    after_turn : {n : ℕ} {es : List (Element Sited)} {fs : List (Element Terminal)} → Following (IsField d) d n es fs → Turns false fs
+    after_turn no_field rest = refl
+    after_turn (field {c = c} {ts = ts} {us = us} {fs = fs} h f s e) rest =
         let later = flat_map element_terminals fs ++ padded false rest in
         let spec : padded false (((us ++ (End ∷ [])) ++ fs) ++ rest) ≡ flat_map element_terminals us ++ (FieldEnd ∷ later) =
         ap (padded false) (append_assoc (us ++ (End ∷ [])) fs rest ∙ append_assoc us (End ∷ []) (fs ++ rest))
@@ -263,11 +263,11 @@ faulty_both d xs ys a b =
 module _ {d : Depth} (o : IsOpen d) where
   mutual
     elements_sound : {n : ℕ} {es : List (Element Sited)} {fs : List (Element Terminal)} → Elements (IsField d) d n es fs → none_faulty d es
-    elements_sound (text h b) = behind_sound b
+    elements_sound (text h b) = following_sound b
 
-    behind_sound : {n : ℕ} {es : List (Element Sited)} {fs : List (Element Terminal)} → Behind (IsField d) d n es fs → none_faulty d es
-    behind_sound no_field = refl
-    behind_sound (field {ss = ss} {es = es} h f s e) =
+    following_sound : {n : ℕ} {es : List (Element Sited)} {fs : List (Element Terminal)} → Following (IsField d) d n es fs → none_faulty d es
+    following_sound no_field = refl
+    following_sound (field {ss = ss} {es = es} h f s e) =
         let a = field_sound o f in
         let b = faulty_both d (ss ++ (End ∷ [])) es (faulty_both d ss (End ∷ []) (spec_sound s) refl) (elements_sound e) in
         rw (a, b) refl

@@ -13,9 +13,9 @@ use Rattle.std.proofs.lemmas.Bool.Decides.{nat_tests}
 use Rattle.std.proofs.lemmas.Grind.{flat_map-append}
 use Rattle.std.proofs.lemmas.List.Folds.{list_any-append}
 use Rattle.unicode_normalization.specs.Forms.{nfkc}
-use Rattle.pyfstring.specs.Expressions.{behind_expression}
+use Rattle.pyfstring.specs.Expressions.{following_expression}
 use Rattle.pyfstring.specs.Singles.{single}
-use Rattle.pyfstring.specs.Texts.{behind_text, is_brace, is_literal_char}
+use Rattle.pyfstring.specs.Texts.{after_text, is_brace, is_literal_char}
 use Rattle.pyfstring_tokens.specs.FieldTokens.{FieldToken, field_tokens, is_gap, closing}
 use Rattle.pyfstring_tokens.specs.Laws.{tokens_of}
 use Rattle.pylex_lexeme.specs.declared.kinds.Exact.{Exact}
@@ -46,8 +46,8 @@ use Rattle.pytoken.specs.Terminals.{field_fault, nested_expression, expression, 
 use Rattle.pytoken.specs.Laws.{is_point}
 use Rattle.pytoken.proofs.Callers.Bodies.{body_all, filter_all}
 use Rattle.pytoken.proofs.Callers.Said.{points_are_in_range}
-use Rattle.pygrammar.specs.OpenStrings.{Open, open_behind, open_behind_all}
-use Rattle.pygrammar.proofs.Callers.OpenStrings.{behind_append}
+use Rattle.pygrammar.specs.OpenStrings.{Open, open_following, open_after_all}
+use Rattle.pygrammar.proofs.Callers.OpenStrings.{after_append}
 use Rattle.pyunparse_text.proofs.FieldTexts.Conditions.{is_own}
 use Rattle.pyunparse_text.proofs.FieldTexts.FieldLiterals.{is_field_character, is_field_byte}
 use Rattle.pyunparse_text.proofs.FieldTexts.TextCharacters.{can_stand}
@@ -70,26 +70,26 @@ use Rattle.pyunparse_text.proofs.StringTerminals.Bodies.{unbraced}
 use Rattle.pyunparse_text.proofs.StringTerminals.FieldCharacters.{is_calm, is_open, is_flat, flat_parts, flat_scalar, flat_calm}
 use Rattle.pyunparse_text.proofs.StringTerminals.FieldCharacters.{flat_unquoted, open_body, no_nuls, flat_body, calm_body, literally}
 
--- ---- Terminals that can be said, with what is open behind them.
+-- ---- Terminals that can be said, with what is open after them.
 
 record Walk (o q : Open) (ts : List Terminal) : Type 0 where
   said : Said Whole o ts
-  opened : open_behind_all o ts ≡ q
+  opened : open_after_all o ts ≡ q
 
 walk_none : (o : Open) → Walk o o []
 walk_none o = record { said = none; opened = refl }
 
-walk_one : {o q : Open} (t : Terminal) → Sayable Whole o t → open_behind o t ≡ q → Walk o q (t ∷ [])
+walk_one : {o q : Open} (t : Terminal) → Sayable Whole o t → open_following o t ≡ q → Walk o q (t ∷ [])
 walk_one t s e = record { said = also s none; opened = e }
 
-said_on : (o : Open) (ts us : List Terminal) → Said Whole o ts → Said Whole (open_behind_all o ts) us → Said Whole o (ts ++ us)
+said_on : (o : Open) (ts us : List Terminal) → Said Whole o ts → Said Whole (open_after_all o ts) us → Said Whole o (ts ++ us)
 said_on o [] us none k = k
-said_on o (t ∷ ts) us (also s h) k = also s (said_on (open_behind o t) ts us h k)
+said_on o (t ∷ ts) us (also s h) k = also s (said_on (open_following o t) ts us h k)
 
 walk_both : {o m q : Open} {ts us : List Terminal} → Walk o m ts → Walk m q us → Walk o q (ts ++ us)
 walk_both {o} {m} {q} {ts} {us} a b = record {
   said = said_on o ts us a.said (subst (λ z. Said Whole z us) (sym a.opened) b.said);
-  opened = behind_append o ts us ∙ (ap (λ z. open_behind_all z us) a.opened ∙ b.opened);
+  opened = after_append o ts us ∙ (ap (λ z. open_after_all z us) a.opened ∙ b.opened);
 }
 
 -- ---- The tokens of a field.
@@ -114,17 +114,17 @@ module _ (o : Open) (p : ℕ → Bool) (fault : Kind → List ℕ → Option Tok
 
 -- ---- Tokens that are one terminal, and no STRING.
 
-name_opens : (o : Open) (t : List ℕ) → open_behind o (terminal_of kinds.Name t) ≡ o
+name_opens : (o : Open) (t : List ℕ) → open_following o (terminal_of kinds.Name t) ≡ o
 unfolding terminal_of
 name_opens [] t = by (keyword_of t)
   where
-    by : (k : Option Keyword) → open_behind [] (elim k [ Some w ↦ Word w | None ↦ Ident (record { spelling = t; form = nfkc t }) ]) ≡ []
+    by : (k : Option Keyword) → open_following [] (elim k [ Some w ↦ Word w | None ↦ Ident (record { spelling = t; form = nfkc t }) ]) ≡ []
     by (Some w) = refl
     by None = refl
 name_opens (n ∷ o) t = by (keyword_of t)
   where
     by : (k : Option Keyword)
-        → open_behind (n ∷ o) (elim k [ Some w ↦ Word w | None ↦ Ident (record { spelling = t; form = nfkc t }) ]) ≡ n ∷ o
+        → open_following (n ∷ o) (elim k [ Some w ↦ Word w | None ↦ Ident (record { spelling = t; form = nfkc t }) ]) ≡ n ∷ o
     by (Some w) = refl
     by None = refl
 
@@ -214,11 +214,11 @@ field_sayable (suc (suc k)) h = absurd (let e = leb-true (suc (suc k)) 1 h in om
 
 module _ (o : Open) (p : ℕ → Bool) (is_nested : Bool) (terminals : List ℕ → List Terminal) (is_wrong : List ℕ → Bool)
     (signs : (k : ℕ) → Sayable Whole (k ∷ o) SpecBegin × (Sayable Whole (k ∷ o) FieldEnd × Sayable Whole (k ∷ o) FormattedEnd))
-    (texts : (k : ℕ) (raw : Bool) (t rest : List ℕ) → list_all p t ≡ true → behind_text raw (at_top k) (t ++ rest) ≡ rest
+    (texts : (k : ℕ) (raw : Bool) (t rest : List ℕ) → list_all p t ≡ true → after_text raw (at_top k) (t ++ rest) ≡ rest
     → Sayable Whole (k ∷ o) (FormattedText (text_points (record { is_raw = raw; has_pairs = at_top k; source = t }))))
     (kept : (k : ℕ) (t : List ℕ) → is_nested ≡ false → list_all p t ≡ true
     → Sayable Whole (k ∷ o) (FormattedText (text_points (record { is_raw = true; has_pairs = false; source = t }))))
-    (fields : (k : ℕ) (t rest : List ℕ) → list_all p t ≡ true → behind_expression (t ++ rest) ≡ Some rest → is_wrong t ≡ false
+    (fields : (k : ℕ) (t rest : List ℕ) → list_all p t ≡ true → following_expression (t ++ rest) ≡ Some rest → is_wrong t ≡ false
     → Walk (k ∷ o) (k ∷ o) (terminals t)) where
   elements_walk : {k : ℕ} {es : List Element} → Laid p is_nested k es → list_any (is_field_of is_wrong) es ≡ false
       → Walk (k ∷ o) (k ∷ o) (flat_map (element_terminals terminals) es)
@@ -252,7 +252,7 @@ unfolding exact_of operators
 brackets_are = (refl, refl)
 
 -- in its fields stands no STRING
-inner_field : (m k : ℕ) (t rest : List ℕ) → list_all is_flat t ≡ true → behind_expression (t ++ rest) ≡ Some rest
+inner_field : (m k : ℕ) (t rest : List ℕ) → list_all is_flat t ≡ true → following_expression (t ++ rest) ≡ Some rest
     → is_nested_faulty t ≡ false
     → Walk (k ∷ (m ∷ [])) (k ∷ (m ∷ [])) (nested_expression t)
 unfolding nested_expression
@@ -275,7 +275,7 @@ stands_there b c h = by b (is_own c) (all_scalars (c ∷ [])) (is_brace c) h
     by true true true true h = absurd (cc)
     by false true true l h = refl
 
-inner_text : (m k : ℕ) (raw : Bool) (t rest : List ℕ) → list_all is_flat t ≡ true → behind_text raw (at_top k) (t ++ rest) ≡ rest
+inner_text : (m k : ℕ) (raw : Bool) (t rest : List ℕ) → list_all is_flat t ≡ true → after_text raw (at_top k) (t ++ rest) ≡ rest
     → Sayable Whole (k ∷ (m ∷ [])) (FormattedText (text_points (record { is_raw = raw; has_pairs = at_top k; source = t })))
 unfolding text_points text_meanings
 inner_text m k raw t rest h w = by k w
@@ -303,7 +303,7 @@ inner_text m k raw t rest h w = by k w
     anything [] = refl
     anything (c ∷ u) = anything u
 
-    by : (k : ℕ) → behind_text raw (at_top k) (t ++ rest) ≡ rest
+    by : (k : ℕ) → after_text raw (at_top k) (t ++ rest) ≡ rest
         → Sayable Whole (k ∷ (m ∷ []))
         (FormattedText (flat_map points_in (meanings raw false (with_line_feeds (if at_top k then single raw t else t)))))
     by zero w = in_spec false (single raw t) (single_kept is_flat raw t h) (anything (single raw t))
@@ -348,7 +348,7 @@ outer_lexeme m classes.Comment t g c h f =
     lexeme_walk one_open classes.Comment t g c (field_faultless kinds.Comment t f).1 (λ e c. absurd (cc))
 outer_lexeme m _ t g c h f = absurd (cc)
 
-outer_field : (k : ℕ) (t rest : List ℕ) → list_all scalar t ≡ true → behind_expression (t ++ rest) ≡ Some rest → is_faulty t ≡ false
+outer_field : (k : ℕ) (t rest : List ℕ) → list_all scalar t ≡ true → following_expression (t ++ rest) ≡ Some rest → is_faulty t ≡ false
     → Walk (k ∷ []) (k ∷ []) (expression t)
 unfolding expression terminals_by
 outer_field k t rest h w n =

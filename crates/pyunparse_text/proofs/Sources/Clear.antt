@@ -34,7 +34,7 @@ use Rattle.pytoken.specs.Refusals.{refusal_at, refusal}
 use Rattle.pyunparse_text.specs.Spacing.{Piece, Line, is_operator_kind, are_readable}
 use Rattle.pyunparse_text.specs.Tokens.{PlainToken, token_at, token_of, exact_in, newline, indent, dedent, end_marker, level_tokens}
 use Rattle.pyunparse_text.specs.Tokens.{line_tokens}
-use Rattle.pyunparse_text.specs.Tokens.{tokens_behind, is_opening, is_closing, opens, closes, closes_all, opens_within, is_even, is_written}
+use Rattle.pyunparse_text.specs.Tokens.{tokens_after, is_opening, is_closing, opens, closes, closes_all, opens_within, is_even, is_written}
 use Rattle.pyunparse_text.specs.Tokens.{are_written, rise_by_one, IsListedAs}
 use Rattle.pyunparse_text.specs.SpacingLaws.{IsClear}
 use Rattle.pyunparse_text.proofs.Listings.Relisting.{entries_all, encoding_entry}
@@ -93,11 +93,11 @@ module _ (extent : Extent) where
     pieces_faultless ps (All-tail (λ p. fault_of extent p.kind p.text ≡ None) p ps h),
   )
 
-  lines_faultless : (m : ℕ) (ls : List Line) → All (IsClear extent) ls → Faultless (tokens_behind m ls)
+  lines_faultless : (m : ℕ) (ls : List Line) → All (IsClear extent) ls → Faultless (tokens_after m ls)
   lines_faultless m [] h =
       faultless_both (replicate m dedent) (end_marker ∷ []) (dedents_faultless m) (layout_faultless extent kinds.EndMarker [] refl, tt)
   lines_faultless m (l ∷ ls) h =
-      faultless_both (line_tokens m l) (tokens_behind l.level ls)
+      faultless_both (line_tokens m l) (tokens_after l.level ls)
       (faultless_both (level_tokens m l.level) (map token_of l.pieces ++ newline ∷ []) (level_faultless m l.level)
       (faultless_both (map token_of l.pieces) (newline ∷ []) (pieces_faultless l.pieces (All-head (IsClear extent) l ls h).faultless)
       (layout_faultless extent kinds.Newline newline.text refl, tt)))
@@ -233,7 +233,7 @@ pieces_shallow most d (p ∷ ps) os c w h =
     (cases_Bool (opens p))
 
 lines_shallow : (extent : Extent) (m : ℕ) (ls : List Line) → list_all is_written ls ≡ true → All (IsClear extent) ls
-    → shallow most_brackets 0 (map exact_in (tokens_behind m ls)) ≡ true
+    → shallow most_brackets 0 (map exact_in (tokens_after m ls)) ≡ true
 lines_shallow extent m [] w h =
     subst (λ os. shallow most_brackets 0 os ≡ true) (sym (map-append exact_in (replicate m dedent) (end_marker ∷ [])))
     (plain_shallow most_brackets 0 (replicate m dedent) (map exact_in (end_marker ∷ [])) (dedents_plain m) refl)
@@ -241,7 +241,7 @@ lines_shallow extent m (l ∷ ls) w h =
     let a = and_parts (is_written l) (list_all is_written ls) w in
     let b = and_parts (are_readable l.pieces) (closes_all 0 l.pieces && list_all _ l.pieces) a.0 in
     let c = and_parts (closes_all 0 l.pieces) _ b.1 in
-    let rest : List PlainToken = tokens_behind l.level ls in
+    let rest : List PlainToken = tokens_after l.level ls in
     let r : shallow most_brackets 0 (map exact_in (newline ∷ rest)) ≡ true =
     lines_shallow extent l.level ls a.1 (All-tail (IsClear extent) l ls h) in
     let p : shallow most_brackets 0 (map exact_in (map token_of l.pieces) ++ map exact_in (newline ∷ rest)) ≡ true =
@@ -249,7 +249,7 @@ lines_shallow extent m (l ∷ ls) w h =
     let q =
     plain_shallow most_brackets 0 (level_tokens m l.level) (map exact_in (map token_of l.pieces) ++ map exact_in (newline ∷ rest))
     (level_plain m l.level) p in
-    let s : map exact_in (tokens_behind m (l ∷ ls)) ≡ map exact_in (level_tokens m l.level) ++
+    let s : map exact_in (tokens_after m (l ∷ ls)) ≡ map exact_in (level_tokens m l.level) ++
     (map exact_in (map token_of l.pieces) ++ map exact_in (newline ∷ rest)) =
     ap (map exact_in)
     (append_assoc (level_tokens m l.level) (map token_of l.pieces ++ newline ∷ []) rest ∙ ap (λ u. level_tokens m l.level ++ u)
@@ -315,7 +315,7 @@ first_none (Some x) p r e h = absurd (cc)
 first_none None p r e h = h
 
 pub clear : (extent : Extent) (s : Source) (ls : List Line) → are_written ls ≡ true → All (IsClear extent) ls
-    → IsListedAs s (tokens_behind 0 ls)
+    → IsListedAs s (tokens_after 0 ls)
     → refusal extent s ≡ None
 unfolding refusal_at
 clear extent s ls w h i =

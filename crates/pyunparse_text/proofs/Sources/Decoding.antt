@@ -34,7 +34,7 @@ use Rattle.pylex_lexeme.specs.Strings.{is_single_string}
 use Rattle.pylex_lexeme.specs.Lexemes.{is_name}
 use Rattle.pylex_lexeme.proofs.Callers.Lexemes.{words, heads, by_words, start_continues}
 use Rattle.pylex_lexeme.proofs.Callers.WholeLines.{one_of}
-use Rattle.pyunparse_text.specs.Spacing.{Piece, Line, is_token, touches, text_behind, spaced, are_readable, line_text, lines_text}
+use Rattle.pyunparse_text.specs.Spacing.{Piece, Line, is_token, touches, text_following, spaced, are_readable, line_text, lines_text}
 use Rattle.pyunparse_text.specs.Tokens.{is_written}
 use Rattle.pyunparse_text.proofs.LexemeFronts.Fronts.{run_ends}
 use Rattle.pyunparse_text.proofs.LexemeFronts.PieceFronts.{Off, no_token, none_empty, ArePieces}
@@ -84,13 +84,13 @@ blanks_in p zero e = refl
 blanks_in p (suc n) e = rw e (blanks_in p n e)
 
 -- a property of all characters of the pieces, and of the blank
-behind_in : (p : ℕ → Bool) → p 32 ≡ true → (x : Piece) (qs : List Piece) → list_all (λ q. list_all p q.text) qs ≡ true
-    → list_all p (text_behind x qs) ≡ true
-behind_in p s x [] e = refl
-behind_in p s x (q ∷ qs) e =
+after_in : (p : ℕ → Bool) → p 32 ≡ true → (x : Piece) (qs : List Piece) → list_all (λ q. list_all p q.text) qs ≡ true
+    → list_all p (text_following x qs) ≡ true
+after_in p s x [] e = refl
+after_in p s x (q ∷ qs) e =
     let h = and_parts (list_all p q.text) (list_all (λ q. list_all p q.text) qs) e in
-    let r = both_in p q.text (text_behind q qs) h.0 (behind_in p s q qs h.1) in
-    by (touches x q) (q.text ++ text_behind q qs) r
+    let r = both_in p q.text (text_following q qs) h.0 (after_in p s q qs h.1) in
+    by (touches x q) (q.text ++ text_following q qs) r
   where
     by : (b : Bool) (t : List ℕ) → list_all p t ≡ true → list_all p ((if b then [] else 32 ∷ []) ++ t) ≡ true
     by true t e = e
@@ -100,7 +100,7 @@ spaced_in : (p : ℕ → Bool) → p 32 ≡ true → (ps : List Piece) → list_
 spaced_in p s [] e = refl
 spaced_in p s (q ∷ qs) e =
     let h = and_parts (list_all p q.text) (list_all (λ q. list_all p q.text) qs) e in
-    both_in p q.text (text_behind q qs) h.0 (behind_in p s q qs h.1)
+    both_in p q.text (text_following q qs) h.0 (after_in p s q qs h.1)
 
 tokens_in : (ps : List Piece) → ArePieces ps → list_all (λ q. list_all is_comment_part q.text) ps ≡ true
 tokens_in [] e = refl
@@ -132,8 +132,8 @@ spaced_quiet c o n s [] r e = cc
 spaced_quiet c o n s (p ∷ ps) r e =
     let i = and_parts (list_all (λ q. is_token q.kind q.text) (p ∷ ps)) _ e in
     let j = and_parts (is_token p.kind p.text) (list_all (λ q. is_token q.kind q.text) ps) i.0 in
-    subst (λ (u : List ℕ). begins (λ d. d == c) u ≡ false) (sym (append_assoc p.text (text_behind p ps) r))
-    (quiet_off c o n s p.kind p.text (text_behind p ps ++ r) j.0)
+    subst (λ (u : List ℕ). begins (λ d. d == c) u ≡ false) (sym (append_assoc p.text (text_following p ps) r))
+    (quiet_off c o n s p.kind p.text (text_following p ps ++ r) j.0)
 
 -- A mark is one character.
 mark_bytes : encode 65279 ≡ 239 ∷ 187 ∷ 191 ∷ []
@@ -213,11 +213,11 @@ line_scalars l p =
     blank_scalars zero = refl
     blank_scalars (suc n) = blank_scalars n
 
-    behind_scalars : (x : Piece) (qs : List Piece) → list_all (λ p. all_scalars p.text) qs ≡ true → all_scalars (text_behind x qs) ≡ true
-    behind_scalars x [] e = refl
-    behind_scalars x (q ∷ qs) e =
+    after_scalars : (x : Piece) (qs : List Piece) → list_all (λ p. all_scalars p.text) qs ≡ true → all_scalars (text_following x qs) ≡ true
+    after_scalars x [] e = refl
+    after_scalars x (q ∷ qs) e =
         let h = and_parts (all_scalars q.text) (list_all (λ p. all_scalars p.text) qs) e in
-        by (touches x q) (q.text ++ text_behind q qs) (scalars_both q.text (text_behind q qs) h.0 (behind_scalars q qs h.1))
+        by (touches x q) (q.text ++ text_following q qs) (scalars_both q.text (text_following q qs) h.0 (after_scalars q qs h.1))
       where
         by : (b : Bool) (t : List ℕ) → all_scalars t ≡ true → all_scalars ((if b then [] else 32 ∷ []) ++ t) ≡ true
         by true t e = e
@@ -227,7 +227,7 @@ line_scalars l p =
     spaced_scalars [] e = refl
     spaced_scalars (q ∷ qs) e =
         let h = and_parts (all_scalars q.text) (list_all (λ p. all_scalars p.text) qs) e in
-        scalars_both q.text (text_behind q qs) h.0 (behind_scalars q qs h.1)
+        scalars_both q.text (text_following q qs) h.0 (after_scalars q qs h.1)
 
 -- no byte of a line is bad
 line_good : (l : Line) → Plainly l → first_bad Utf8 (bytes_of l) ≡ None

@@ -17,12 +17,12 @@ use Rattle.pylex_listing.specs.Listing.{Source, listing}
 use Rattle.pylex_listing.specs.Steps.{entries_of}
 use Rattle.pyunparse_text.specs.Spacing.{Piece, Line, is_token, are_readable}
 use Rattle.pyunparse_text.specs.Tokens.{PlainToken, token_at, token_of, newline, indent, dedent, end_marker, level_tokens, line_tokens}
-use Rattle.pyunparse_text.specs.Tokens.{tokens_behind}
+use Rattle.pyunparse_text.specs.Tokens.{tokens_after}
 use Rattle.pyunparse_text.specs.Tokens.{is_written, are_written, rise_by_one, IsListedAs, PlainLine, unplaced, unplaced_line, token_line}
 use Rattle.pytoken.specs.Tokens.{is_open, tokens_of_entry, tokens_from, tokens, lines}
 use Rattle.pytoken.specs.Tokens as source
 use Rattle.pysource.specs.declared.places.Place.{Place}
-use Rattle.pyunparse_text.specs.Inner.PlainLines.{is_indent, is_dedent, level_behind, lines_from}
+use Rattle.pyunparse_text.specs.Inner.PlainLines.{is_indent, is_dedent, level_after, lines_from}
 use Rattle.pyunparse_text.proofs.LexemeFronts.PieceFronts.{ArePieces}
 use Rattle.pyunparse_text.proofs.Listings.Relisting.{entries_all, encoding_entry}
 use Rattle.pyunparse_text.proofs.Sources.Decoding.{pieces_of}
@@ -70,26 +70,26 @@ one_token text e o kinds.Comment k h = cc
 one_token text e o kinds.Nl k h = cc
 
 -- and says whether a line is open after it
-open_behind : (e : Entry) (before : List Entry) (o : Bool) (k : Kind) → e.kind ≡ k → has_place o k ≡ true
+open_following : (e : Entry) (before : List Entry) (o : Bool) (k : Kind) → e.kind ≡ k → has_place o k ≡ true
     → is_open (e ∷ before) ≡ opens_line k
-open_behind e before o kinds.Name k h = rw k refl
-open_behind e before o kinds.Number k h = rw k refl
-open_behind e before o kinds.String k h = rw k refl
-open_behind e before o kinds.Op k h = rw k refl
-open_behind e before o kinds.Indent k h = rw k refl
-open_behind e before o kinds.Newline k h = rw k refl
-open_behind e before o kinds.Dedent k h = rw k refl
-open_behind e before o kinds.EndMarker k h = rw k refl
-open_behind e before o kinds.Encoding k h = cc
-open_behind e before o kinds.Comment k h = cc
-open_behind e before o kinds.Nl k h = cc
+open_following e before o kinds.Name k h = rw k refl
+open_following e before o kinds.Number k h = rw k refl
+open_following e before o kinds.String k h = rw k refl
+open_following e before o kinds.Op k h = rw k refl
+open_following e before o kinds.Indent k h = rw k refl
+open_following e before o kinds.Newline k h = rw k refl
+open_following e before o kinds.Dedent k h = rw k refl
+open_following e before o kinds.EndMarker k h = rw k refl
+open_following e before o kinds.Encoding k h = cc
+open_following e before o kinds.Comment k h = cc
+open_following e before o kinds.Nl k h = cc
 
 all_tokens : (text : List ℕ) (before es : List Entry) → flows (is_open before) (map (token_at text) es) ≡ true
     → map unplaced (tokens_from text before es) ≡ map (token_at text) es
 all_tokens text before [] f = refl
 all_tokens text before (e ∷ es) f =
     let h = and_parts (has_place (is_open before) e.kind) (flows (opens_line e.kind) (map (token_at text) es)) f in
-    let o = open_behind e before (is_open before) e.kind refl h.0 in
+    let o = open_following e before (is_open before) e.kind refl h.0 in
     let g : flows (is_open (e ∷ before)) (map (token_at text) es) ≡ true =
     subst (λ (b : Bool). flows b (map (token_at text) es) ≡ true) (sym o) h.1 in
     map-append unplaced (tokens_of_entry text (is_open before) e) (tokens_from text (e ∷ before) es)
@@ -145,18 +145,18 @@ shift_line m l ts =
     append_assoc (level_tokens m l.level) (map token_of l.pieces ++ newline ∷ []) ts
     ∙ ap (λ u. level_tokens m l.level ++ u) (append_assoc (map token_of l.pieces) (newline ∷ []) ts)
 
-lines_flow : (m : ℕ) (ls : List Line) → list_all is_written ls ≡ true → flows false (tokens_behind m ls) ≡ true
+lines_flow : (m : ℕ) (ls : List Line) → list_all is_written ls ≡ true → flows false (tokens_after m ls) ≡ true
 lines_flow m [] w = end_flows m
 lines_flow m (l ∷ ls) w =
     let a = and_parts (is_written l) (list_all is_written ls) w in
     let r = and_parts (are_readable l.pieces) _ a.0 in
-    rw (shift_line m l (tokens_behind l.level ls))
-    (level_flows m l.level (map token_of l.pieces ++ newline ∷ tokens_behind l.level ls)
-    (first_flows l.pieces (tokens_behind l.level ls) r.0 (lines_flow l.level ls a.1)))
+    rw (shift_line m l (tokens_after l.level ls))
+    (level_flows m l.level (map token_of l.pieces ++ newline ∷ tokens_after l.level ls)
+    (first_flows l.pieces (tokens_after l.level ls) r.0 (lines_flow l.level ls a.1)))
 
 -- the tokens of a source that is listed as those of written lines
-pub tokens_are : (s : Source) (ls : List Line) → are_written ls ≡ true → IsListedAs s (tokens_behind 0 ls)
-    → map unplaced (tokens s) ≡ tokens_behind 0 ls
+pub tokens_are : (s : Source) (ls : List Line) → are_written ls ≡ true → IsListedAs s (tokens_after 0 ls)
+    → map unplaced (tokens s) ≡ tokens_after 0 ls
 unfolding tokens
 tokens_are s ls w i =
     let a = and_parts (list_all is_written ls) (rise_by_one 0 ls) w in
@@ -170,7 +170,7 @@ tokens_are s ls w i =
 abbrev Counted : ℕ → List PlainToken → Type 0
 Counted m before = count_by is_indent before ≡ m + count_by is_dedent before
 
-is_level : (m : ℕ) (before : List PlainToken) → Counted m before → level_behind before ≡ m
+is_level : (m : ℕ) (before : List PlainToken) → Counted m before → level_after before ≡ m
 is_level m before c = omega (arith, c)
 
 pub count_cons : {A : Type 0} (p : A → Bool) (t : A) (ts : List A) → count_by p (t ∷ ts) ≡ (if p t then 1 else 0) + count_by p ts
@@ -198,19 +198,19 @@ counted_indent m n before c =
     omega (arith, x, y, c)
 
 -- after the tokens of a level
-record Behind (ts us : List PlainToken) (n : ℕ) (before : List PlainToken) : Type 0 where
+record Following (ts us : List PlainToken) (n : ℕ) (before : List PlainToken) : Type 0 where
   pub passed : List PlainToken
   pub counted : Counted n passed
   pub same : lines_from before [] (ts ++ us) ≡ lines_from passed [] us
 
-dedents_behind : (k m : ℕ) (us before : List PlainToken) → Counted (k + m) before → Behind (replicate k dedent) us m before
-dedents_behind zero m us before c = record { passed = before; counted = c ∙ omega arith; same = refl }
-dedents_behind (suc k) m us before c =
-    let d = dedents_behind k m us (dedent ∷ before) (counted_dedent (k + m) before (c ∙ omega arith)) in
+dedents_after : (k m : ℕ) (us before : List PlainToken) → Counted (k + m) before → Following (replicate k dedent) us m before
+dedents_after zero m us before c = record { passed = before; counted = c ∙ omega arith; same = refl }
+dedents_after (suc k) m us before c =
+    let d = dedents_after k m us (dedent ∷ before) (counted_dedent (k + m) before (c ∙ omega arith)) in
     record { passed = d.passed; counted = d.counted; same = d.same }
 
-level_is_behind : (m n : ℕ) (us before : List PlainToken) → n ≤ m + 1 → Counted m before → Behind (level_tokens m n) us n before
-level_is_behind m n us before h c =
+level_is_after : (m n : ℕ) (us before : List PlainToken) → n ≤ m + 1 → Counted m before → Following (level_tokens m n) us n before
+level_is_after m n us before h c =
     ⊎_elim
     (λ (i : m < n).
     let e : ltb m n ≡ true = grind (arith, nat_tests) in
@@ -224,7 +224,7 @@ level_is_behind m n us before h c =
     (λ (i : n ≤ m).
     let e : ltb m n ≡ false = grind (arith, nat_tests) in
     let z : m ≡ (m - n) + n = omega arith in
-    rw e (dedents_behind (m - n) n us before (subst (λ (x : ℕ). Counted x before) z c)))
+    rw e (dedents_after (m - n) n us before (subst (λ (x : ℕ). Counted x before) z c)))
     (cases_lt m n)
 
 -- a piece goes into its line
@@ -278,26 +278,26 @@ no_lines : (m : ℕ) (before : List PlainToken) → lines_from before [] (replic
 no_lines zero before = refl
 no_lines (suc m) before = no_lines m (dedent ∷ before)
 
-lines_behind : (m : ℕ) (ls : List Line) (before : List PlainToken) → list_all is_written ls ≡ true
+lines_after : (m : ℕ) (ls : List Line) (before : List PlainToken) → list_all is_written ls ≡ true
     → rise_by_one m ls ≡ true → Counted m before
-    → lines_from before [] (tokens_behind m ls) ≡ map token_line ls
-lines_behind m [] before w r c = no_lines m before
-lines_behind m (l ∷ ls) before w r c =
+    → lines_from before [] (tokens_after m ls) ≡ map token_line ls
+lines_after m [] before w r c = no_lines m before
+lines_after m (l ∷ ls) before w r c =
     let a = and_parts (is_written l) (list_all is_written ls) w in
     let b = and_parts (nat_le l.level (m + 1)) (rise_by_one l.level ls) r in
     let p = and_parts (are_readable l.pieces) _ a.0 in
-    let ts : List PlainToken = tokens_behind l.level ls in
-    let v = level_is_behind m l.level (map token_of l.pieces ++ newline ∷ ts) before (leb-true l.level (m + 1) b.0) c in
+    let ts : List PlainToken = tokens_after l.level ls in
+    let v = level_is_after m l.level (map token_of l.pieces ++ newline ∷ ts) before (leb-true l.level (m + 1) b.0) c in
     let e = line_ends l.level l.pieces ts v.passed [] (pieces_of l.pieces p.0) v.counted in
     ap (lines_from before []) (shift_line m l ts) ∙ v.same ∙ e.same
-    ∙ ap (λ x. token_line l ∷ x) (lines_behind l.level ls e.passed a.1 b.1 e.counted)
+    ∙ ap (λ x. token_line l ∷ x) (lines_after l.level ls e.passed a.1 b.1 e.counted)
 
 -- Lines of tokens, and those of the same tokens without their places.
 count_unplaced : (p : PlainToken → Bool) (ts : List source.Token) → count_by (λ t. p (unplaced t)) ts ≡ count_by p (map unplaced ts)
 count_unplaced p [] = refl
 count_unplaced p (t ∷ ts) = let h = count_unplaced p ts in grind (arith, common_steps, h)
 
-level_unplaced : (before : List source.Token) → source.level_behind before ≡ level_behind (map unplaced before)
+level_unplaced : (before : List source.Token) → source.level_after before ≡ level_after (map unplaced before)
 level_unplaced before = let i = count_unplaced is_indent before in let d = count_unplaced is_dedent before in rw (← i, ← d) refl
 
 line_unplaced : (level : ℕ) (line : List source.Token) (xs : List source.Line) (ys : List PlainLine) (n : ℕ) → level ≡ n
@@ -316,10 +316,10 @@ one_unplaced : (k : Kind) (p : Place) (x : List ℕ) (before line ts : List sour
     → Unplaces before line (record { kind = k; start = p; text = x } ∷ ts)
 one_unplaced kinds.Newline p x before line ts new same more =
     record {
-      is = line_unplaced (source.level_behind before) line
+      is = line_unplaced (source.level_after before) line
           (source.lines_from (record { kind = kinds.Newline; start = p; text = x } ∷ before) [] ts)
           (lines_from (record { kind = kinds.Newline; text = x } ∷ map unplaced before) [] (map unplaced ts))
-          (level_behind (map unplaced before)) (level_unplaced before) new.is;
+          (level_after (map unplaced before)) (level_unplaced before) new.is;
     }
 one_unplaced kinds.Indent p x before line ts new same more = record { is = same.is }
 one_unplaced kinds.Dedent p x before line ts new same more = record { is = same.is }
@@ -367,9 +367,9 @@ lines_unplaced before line (t ∷ ts) =
     (lines_unplaced (t ∷ before) (line ++ t ∷ []) ts)
 
 -- The logical lines of such a source are the written lines, each at its level.
-pub lines_are : (s : Source) (ls : List Line) → are_written ls ≡ true → IsListedAs s (tokens_behind 0 ls)
+pub lines_are : (s : Source) (ls : List Line) → are_written ls ≡ true → IsListedAs s (tokens_after 0 ls)
     → map unplaced_line (lines s) ≡ map token_line ls
 unfolding lines
 lines_are s ls w i =
     let a = and_parts (list_all is_written ls) (rise_by_one 0 ls) w in
-    (lines_unplaced [] [] (tokens s)).is ∙ ap (lines_from [] []) (tokens_are s ls w i) ∙ lines_behind 0 ls [] a.0 a.1 refl
+    (lines_unplaced [] [] (tokens s)).is ∙ ap (lines_from [] []) (tokens_are s ls w i) ∙ lines_after 0 ls [] a.0 a.1 refl

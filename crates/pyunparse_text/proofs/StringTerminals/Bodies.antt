@@ -10,7 +10,7 @@ use Rattle.std.proofs.lemmas.Bool.{cases_Bool, and_from, eqb-true, and_parts, or
 use Rattle.std.proofs.lemmas.Bool.Decides.{nat_tests}
 use Rattle.std.proofs.Math.Seq.{take-nil}
 use Rattle.pyfstring.specs.Characters.{backslash}
-use Rattle.pyfstring.specs.Texts.{begins, is_brace, is_literal_char, escape_len, unit_len, units_after, behind_text}
+use Rattle.pyfstring.specs.Texts.{begins, is_brace, is_literal_char, escape_len, unit_len, units_after, after_text}
 use Rattle.pyfstring.specs.Singles.{single_after, single}
 use Rattle.pylex_lexeme.specs.Strings.{begins_three}
 use Rattle.pytoken.specs.declared.meanings.Meaning.{Meaning}
@@ -83,23 +83,23 @@ last_all p q n (c ∷ cs) h = elim (cases_Bool (nat_le n (length cs))) [
         rw e refl
 
 -- what stands between quotes, by whether there are three
-abbrev behind_quote : Bool → List ℕ → List ℕ
-behind_quote three u = let width = if three then 3 else 1 in without_last width (drop width u)
+abbrev after_quote : Bool → List ℕ → List ℕ
+after_quote three u = let width = if three then 3 else 1 in without_last width (drop width u)
 
 -- A test that no quote passes.
 module _ (p : ℕ → Bool) (no_quote : (c : ℕ) → is_quote c ≡ true → p c ≡ true → ⊥) where
   quote_kept : (c : ℕ) → is_quote c ≡ true → not (c == 13) ≡ true
   quote_kept c q = grind (arith, nat_tests)
 
-  three_all : (a : ℕ) → is_quote a ≡ true → (cs : List ℕ) → list_all p (behind_quote (begins_three (a ∷ cs)) (a ∷ cs)) ≡ true
-      → list_all p (behind_quote (begins_three (a ∷ with_line_feeds cs)) (a ∷ with_line_feeds cs)) ≡ true
+  three_all : (a : ℕ) → is_quote a ≡ true → (cs : List ℕ) → list_all p (after_quote (begins_three (a ∷ cs)) (a ∷ cs)) ≡ true
+      → list_all p (after_quote (begins_three (a ∷ with_line_feeds cs)) (a ∷ with_line_feeds cs)) ≡ true
   three_all a q cs h = elim (cases_Bool (begins_three (a ∷ cs))) [
     | inl three ↦ in_three cs three h
     | inr one ↦ elim (cases_Bool (begins_three (a ∷ with_line_feeds cs))) [
       | inl three ↦ (
-          let g = last_all p (λ c. not (c == 13)) 1 cs (subst (λ b. list_all p (behind_quote b (a ∷ cs)) ≡ true) one h) in
+          let g = last_all p (λ c. not (c == 13)) 1 cs (subst (λ b. list_all p (after_quote b (a ∷ cs)) ≡ true) one h) in
           absurd (in_one (with_line_feeds cs) three g))
-      | inr still ↦ rw still (last_all p (λ c. not (c == 13)) 1 cs (subst (λ b. list_all p (behind_quote b (a ∷ cs)) ≡ true) one h))
+      | inr still ↦ rw still (last_all p (λ c. not (c == 13)) 1 cs (subst (λ b. list_all p (after_quote b (a ∷ cs)) ≡ true) one h))
     ]
   ]
     where
@@ -113,8 +113,8 @@ module _ (p : ℕ → Bool) (no_quote : (c : ℕ) → is_quote c ≡ true → p 
           let k = and_parts (p d) (list_all p (take (length ds) (e ∷ ds))) (subst (λ n. list_all p (take n (d ∷ e ∷ ds)) ≡ true) f g) in
           no_quote d (subst (λ (x : ℕ). is_quote x ≡ true) (sym (eqb-true d a v.1)) q) k.0
 
-      in_three : (ds : List ℕ) → begins_three (a ∷ ds) ≡ true → list_all p (behind_quote (begins_three (a ∷ ds)) (a ∷ ds)) ≡ true
-          → list_all p (behind_quote (begins_three (a ∷ with_line_feeds ds)) (a ∷ with_line_feeds ds)) ≡ true
+      in_three : (ds : List ℕ) → begins_three (a ∷ ds) ≡ true → list_all p (after_quote (begins_three (a ∷ ds)) (a ∷ ds)) ≡ true
+          → list_all p (after_quote (begins_three (a ∷ with_line_feeds ds)) (a ∷ with_line_feeds ds)) ≡ true
       in_three [] b g = absurd (cc)
       in_three (d ∷ []) b g = absurd (cc)
       in_three (d ∷ e ∷ ds) b g =
@@ -122,7 +122,7 @@ module _ (p : ℕ → Bool) (no_quote : (c : ℕ) → is_quote c ≡ true → p 
           let v = and_parts (is_quote a) (d == a) w.0 in
           let x = quote_kept d (subst (λ (x : ℕ). is_quote x ≡ true) (sym (eqb-true d a v.1)) q) in
           let y = quote_kept e (subst (λ (x : ℕ). is_quote x ≡ true) (sym (eqb-true e a w.1)) q) in
-          let z : list_all p (without_last 3 ds) ≡ true = subst (λ b. list_all p (behind_quote b (a ∷ d ∷ e ∷ ds)) ≡ true) b g in
+          let z : list_all p (without_last 3 ds) ≡ true = subst (λ b. list_all p (after_quote b (a ∷ d ∷ e ∷ ds)) ≡ true) b g in
           rw (x, y, b) (last_all p (λ c. not (c == 13)) 3 ds z)
 
 body_next : (c : ℕ) (t : List ℕ) → is_quote c ≡ false → body_of (c ∷ t) ≡ body_of t
@@ -130,7 +130,7 @@ body_next c t q =
     let e : 1 + prefix_len_of t ≡ suc (prefix_len_of t) = omega arith in
     rw q (ap inside (ap (λ k. drop k (c ∷ t)) e))
 
-body_quote : (c : ℕ) (t : List ℕ) → is_quote c ≡ true → body_of (c ∷ t) ≡ behind_quote (begins_three (c ∷ t)) (c ∷ t)
+body_quote : (c : ℕ) (t : List ℕ) → is_quote c ≡ true → body_of (c ∷ t) ≡ after_quote (begins_three (c ∷ t)) (c ∷ t)
 body_quote c t q = rw q refl
 
 -- what passes in the body of a literal passes in that of the literal without CRs
@@ -227,7 +227,7 @@ unbraced_after raw (c ∷ t) rest h w =
     by false false false e k w f = absurd (shorter c t rest w)
 
 -- in a format spec a text without a backslash has no brace
-pub unbraced : (raw : Bool) (t rest : List ℕ) → list_all is_no_backslash t ≡ true → behind_text raw false (t ++ rest) ≡ rest
+pub unbraced : (raw : Bool) (t rest : List ℕ) → list_all is_no_backslash t ≡ true → after_text raw false (t ++ rest) ≡ rest
     → list_all is_literal_char t ≡ true
-unfolding behind_text
+unfolding after_text
 unbraced raw t rest h w = unbraced_after raw t rest h w

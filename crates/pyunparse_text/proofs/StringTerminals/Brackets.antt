@@ -45,7 +45,7 @@ use Rattle.pyunparse_text.proofs.StringTerminals.FieldLexemes.{AllTokens, no_lex
 use Rattle.pyunparse_text.proofs.FieldTexts.FieldTokens.{counted}
 use Rattle.pyunparse_text.proofs.Listings.Runs.{opens_alone}
 
--- as many brackets are open behind them as before, and no fewer than so many between
+-- as many brackets are open after them as before, and no fewer than so many between
 pub record Closed (ts : List Terminal) : Type 0 where
   pub is : (d : ℕ) (us : List Terminal) → most_open d us ≤ most_open d (ts ++ us)
 
@@ -84,7 +84,7 @@ operator_terminal t e h = ap (λ (o : Option Exact). elim o [ Some x ↦ Op x | 
 
 -- ---- Lexemes.
 
--- behind an operator, in n brackets of a field's text and d others
+-- after an operator, in n brackets of a field's text and d others
 operator_after : (o c : Bool) (n d : ℕ) → (o ≡ true → c ≡ false) → (c ≡ true → 1 ≤ n)
     → cond o (suc (n + d)) (cond c ((n + d) - 1) (n + d)) ≡ (n + count_if o - count_if c) + d
 operator_after true true n d a low = absurd (let e = a refl in cc)
@@ -106,8 +106,8 @@ no_brackets classes.LineEnd g = (refl, refl)
 no_brackets classes.Join g = (refl, refl)
 no_brackets _ g = absurd (cc)
 
-behind_opener : (n d : ℕ) (ts : List Terminal) → n ≤ most_open (suc d) ts → n ≤ most_open d (Op LPar ∷ ts)
-behind_opener n d ts h = let e : most_open d (Op LPar ∷ ts) ≡ max d (most_open (suc d) ts) = refl in omega (arith, e, h)
+after_opener : (n d : ℕ) (ts : List Terminal) → n ≤ most_open (suc d) ts → n ≤ most_open d (Op LPar ∷ ts)
+after_opener n d ts h = let e : most_open d (Op LPar ∷ ts) ≡ max d (most_open (suc d) ts) = refl in omega (arith, e, h)
 
 -- the terminals of tokens by a function
 abbrev given : (Kind → List ℕ → List Terminal) → List FieldToken → List Terminal
@@ -188,7 +188,7 @@ module _ (fault : Kind → List ℕ → Option TokenError) (by : Kind → List �
             let z : 0 + suc d ≡ suc d = omega arith in
             let q : most_open (suc d) (Op RPar ∷ us) ≤ most_open (suc d) (given by ts ++ (Op RPar ∷ us)) =
             subst (λ n. most_open (suc d) (Op RPar ∷ us) ≤ most_open n (given by ts ++ (Op RPar ∷ us))) z r in
-            let o = behind_opener (most_open d us) d (given by ts ++ (Op RPar ∷ us)) (omega (arith, q, m)) in
+            let o = after_opener (most_open d us) d (given by ts ++ (Op RPar ∷ us)) (omega (arith, q, m)) in
             rw (append_assoc (given by ts) (Op RPar ∷ []) us) o;
       })
 

@@ -14,10 +14,10 @@ use Rattle.pyfstring.specs.declared.parts.Conversion.{Conversion}
 use Rattle.pyfstring.specs.declared.parts.Manner.{Manner}
 use Rattle.pyfstring.specs.Characters.{colon, right_curly_bracket, left_curly_bracket}
 use Rattle.pyfstring.specs.Cutting.{cut_of}
-use Rattle.pyfstring.specs.Expressions.{behind_expression}
+use Rattle.pyfstring.specs.Expressions.{following_expression}
 use Rattle.pyfstring.specs.Parts.{FieldParts, Part, BodyPart}
-use Rattle.pyfstring.specs.Texts.{behind_text}
-use Rattle.pyfstring.specs.Pieces.{IsField, Keeps, Converts, Specifies, Cuts, IsInnerSpec, IsSpec, IsCut, behind_blanks}
+use Rattle.pyfstring.specs.Texts.{after_text}
+use Rattle.pyfstring.specs.Pieces.{IsField, Keeps, Converts, Specifies, Cuts, IsInnerSpec, IsSpec, IsCut, after_blanks}
 use Rattle.pyfstring.proofs.Callers.Law.{cut_of_sound}
 use Rattle.pytoken.specs.StringValues.{with_line_feeds, is_raw, body_of}
 use Rattle.pytoken.specs.FormattedStrings.{Element, Field, Spec, End, text_element, kept_elements, spec_elements, field_elements}
@@ -38,14 +38,14 @@ at_top (suc k) = false
 -- Of characters that pass a test. A text is a longest one, but for the source that `=` keeps; a field ends where its expression does.
 pub data Laid (p : ℕ → Bool) (is_nested : Bool) : ℕ → List Element → Type 0 where
   nothing : {k : ℕ} → Laid p is_nested k []
-  a_text : {k : ℕ} {raw : Bool} {t rest : List ℕ} {es : List Element} → list_all p t ≡ true → behind_text raw (at_top k) (t ++ rest) ≡ rest
+  a_text : {k : ℕ} {raw : Bool} {t rest : List ℕ} {es : List Element} → list_all p t ≡ true → after_text raw (at_top k) (t ++ rest) ≡ rest
       → Laid p is_nested k es
       → Laid p is_nested k (text_element raw (at_top k) t ∷ es)
   kept_text : {k : ℕ} {t : List ℕ} {es : List Element} → is_nested ≡ false → list_all p t ≡ true → Laid p is_nested k es
       → Laid p is_nested k (text_element true false t ∷ es)
   a_spec : {k : ℕ} {es : List Element} → Laid p is_nested k es → Laid p is_nested k (Spec ∷ es)
   a_field : {k : ℕ} {c : Conversion} {t rest : List ℕ} {ss es : List Element} → leb k 1 ≡ true → list_all p t ≡ true
-      → behind_expression (t ++ rest) ≡ Some rest
+      → following_expression (t ++ rest) ≡ Some rest
       → Laid p is_nested (suc k) ss → Laid p is_nested k es → Laid p is_nested k (Field c t ∷ (ss ++ (End ∷ es)))
 
 both : {p : ℕ → Bool} {is_nested : Bool} {k : ℕ} {es fs : List Element} → Laid p is_nested k es → Laid p is_nested k fs
@@ -64,26 +64,26 @@ module _ (p : ℕ → Bool) (is_nested : Bool) where
   parts : (xs ys : List ℕ) → AllIn (xs ++ ys) → AllIn xs × AllIn ys
   parts xs ys h = and_parts (list_all p xs) (list_all p ys) (sym (list_all-append p xs ys) ∙ h)
 
-  behind_one : (c : ℕ) (cs : List ℕ) → AllIn (c ∷ cs) → AllIn cs
-  behind_one c cs h = (and_parts (p c) (list_all p cs) h).1
+  following_one : (c : ℕ) (cs : List ℕ) → AllIn (c ∷ cs) → AllIn cs
+  following_one c cs h = (and_parts (p c) (list_all p cs) h).1
 
-  -- elements, and what is behind them
+  -- elements, and what is after them
   record Left (k : ℕ) (es : List Element) (rest : List ℕ) : Type 0 where
     laid : Laid p is_nested k es
-    behind : AllIn rest
+    following : AllIn rest
 
   keeps_left : (k : ℕ) {cs here rest : List ℕ} {o : Option (List ℕ)} → Keeps is_nested cs here o rest → AllIn cs → AllIn here
       → Left k (kept_elements o) rest
-  keeps_left k (Keeps.unkept n) h g = record { laid = nothing; behind = g }
+  keeps_left k (Keeps.unkept n) h g = record { laid = nothing; following = g }
   keeps_left k (Keeps.kept {here = here} {k = t} n w) h g =
-      let u = parts t (behind_blanks here) (subst AllIn w h) in
-      record { laid = kept_text n u.0 nothing; behind = u.1 }
+      let u = parts t (after_blanks here) (subst AllIn w h) in
+      record { laid = kept_text n u.0 nothing; following = u.1 }
 
   converts_left : {here rest : List ℕ} {c : Conversion} → Converts here c rest → AllIn here → AllIn rest
   converts_left (Converts.unconverted n) h = h
-  converts_left (Converts.by_str {rest = rest}) h = behind_one _ rest (behind_one _ (_ ∷ rest) h)
-  converts_left (Converts.by_repr {rest = rest}) h = behind_one _ rest (behind_one _ (_ ∷ rest) h)
-  converts_left (Converts.by_ascii {rest = rest}) h = behind_one _ rest (behind_one _ (_ ∷ rest) h)
+  converts_left (Converts.by_str {rest = rest}) h = following_one _ rest (following_one _ (_ ∷ rest) h)
+  converts_left (Converts.by_repr {rest = rest}) h = following_one _ rest (following_one _ (_ ∷ rest) h)
+  converts_left (Converts.by_ascii {rest = rest}) h = following_one _ rest (following_one _ (_ ∷ rest) h)
 
   -- what is read by a relation, as elements in so many fields
   abbrev Reads : {S : Type 0} → ℕ → (List ℕ → S → List ℕ → Type 0) → (S → List Element) → Type 0
@@ -93,20 +93,20 @@ module _ (p : ℕ → Bool) (is_nested : Bool) where
       (reads : Reads (suc k) IsSpecOf elements) where
     specifies_left : {here rest : List ℕ} {s : Option S} → Specifies IsSpecOf here s rest → AllIn here
         → Left (suc k) (spec_elements elements s) rest
-    specifies_left (Specifies.unspecified n) h = record { laid = nothing; behind = h }
+    specifies_left (Specifies.unspecified n) h = record { laid = nothing; following = h }
     specifies_left (Specifies.specified {cs = cs} {rest = rest} {s = s} i) h =
-        let l = reads cs rest s i (behind_one colon cs h) in
-        record { laid = a_spec l.laid; behind = l.behind }
+        let l = reads cs rest s i (following_one colon cs h) in
+        record { laid = a_spec l.laid; following = l.following }
 
     field_left : Reads k (IsField IsSpecOf is_nested) (field_elements elements)
     field_left cs rest f i h =
         let w = parts f.text i.after_expression (subst AllIn i.expression.whole h) in
-        let e : behind_expression (f.text ++ i.after_expression) ≡ Some i.after_expression =
-        subst (λ z. behind_expression z ≡ Some i.after_expression) i.expression.whole i.expression.scanned in
+        let e : following_expression (f.text ++ i.after_expression) ≡ Some i.after_expression =
+        subst (λ z. following_expression z ≡ Some i.after_expression) i.expression.whole i.expression.scanned in
         let l : Left k (kept_elements f.kept) i.after_kept = keeps_left k i.keeps h w.1 in
         let s : Left (suc k) (spec_elements elements f.spec) (right_curly_bracket ∷ rest) =
-        specifies_left i.specifies (converts_left i.converts l.behind) in
-        record { laid = both l.laid (a_field low w.0 e s.laid nothing); behind = behind_one right_curly_bracket rest s.behind }
+        specifies_left i.specifies (converts_left i.converts l.following) in
+        record { laid = both l.laid (a_field low w.0 e s.laid nothing); following = following_one right_curly_bracket rest s.following }
 
   module _ {S : Type 0} (k : ℕ) (Is : List ℕ → FieldParts S → List ℕ → Type 0) (elements : S → List Element)
       (reads : Reads k Is (field_elements elements)) where
@@ -114,24 +114,24 @@ module _ (p : ℕ → Bool) (is_nested : Bool) where
         → Left k (flat_map (part_elements raw (at_top k) elements) ps) rest
     cuts_left raw {rest = rest} (Cuts.last_text {t = t} w n) h =
         let u = parts t rest (subst AllIn w.whole h) in
-        record { laid = a_text u.0 (subst (λ z. behind_text raw (at_top k) z ≡ rest) w.whole w.longest) nothing; behind = u.1 }
-    cuts_left raw (Cuts.and_field {t = t} {inside = inside} {behind = behind} {f = f} w i c) h =
+        record { laid = a_text u.0 (subst (λ z. after_text raw (at_top k) z ≡ rest) w.whole w.longest) nothing; following = u.1 }
+    cuts_left raw (Cuts.and_field {t = t} {inside = inside} {following = following} {f = f} w i c) h =
         let u = parts t (left_curly_bracket ∷ inside) (subst AllIn w.whole h) in
-        let l = reads inside behind f i (behind_one left_curly_bracket inside u.1) in
-        let m = cuts_left raw c l.behind in
+        let l = reads inside following f i (following_one left_curly_bracket inside u.1) in
+        let m = cuts_left raw c l.following in
         record {
-          laid = a_text u.0 (subst (λ z. behind_text raw (at_top k) z ≡ left_curly_bracket ∷ inside) w.whole
+          laid = a_text u.0 (subst (λ z. after_text raw (at_top k) z ≡ left_curly_bracket ∷ inside) w.whole
               w.longest) (both l.laid m.laid);
-          behind = m.behind;
+          following = m.following;
         }
 
   inner_left : (m : Manner) → Reads 2 (IsInnerSpec m) (inner_elements m.is_raw)
   inner_left m cs rest t w h =
       let u = parts t rest (subst AllIn w.whole h) in
       record {
-        laid = a_text {k = 2} {raw = m.is_raw} {t = t} {rest = rest} u.0 (subst (λ z. behind_text m.is_raw false z ≡ rest)
+        laid = a_text {k = 2} {raw = m.is_raw} {t = t} {rest = rest} u.0 (subst (λ z. after_text m.is_raw false z ≡ rest)
             w.whole w.longest) nothing;
-        behind = u.1;
+        following = u.1;
       }
 
   spec_left : (raw : Bool) → Reads 1 (IsSpec (record { is_raw = raw; is_nested = is_nested })) (spec_part_elements raw)

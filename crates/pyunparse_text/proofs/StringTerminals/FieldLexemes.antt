@@ -52,11 +52,11 @@ has_one fault ts = list_any (λ (x : FieldToken). is_some (fault x.kind x.text))
 module _ (p : ℕ → Bool) (fault : Kind → List ℕ → Option TokenError) where
   lexeme_tokens : (text : List ℕ) (xs : List Lexeme) (left : List ℕ) → AreLexemes text xs left → all_scalars text ≡ true
       → list_all p text ≡ true
-      → (behind : List FieldToken) → has_one fault (tokens_of xs ++ behind) ≡ false
+      → (following : List FieldToken) → has_one fault (tokens_of xs ++ following) ≡ false
       → AllTokens p fault xs
-  lexeme_tokens text [] left h s q behind n = no_lexeme
-  lexeme_tokens text (x ∷ xs) left (rest, at, parts, h) s q behind n =
-      by (is_gap x.«class») refl n (lexeme_tokens rest xs left h (back_scalars x.text rest w) v.1 behind)
+  lexeme_tokens text [] left h s q following n = no_lexeme
+  lexeme_tokens text (x ∷ xs) left (rest, at, parts, h) s q following n =
+      by (is_gap x.«class») refl n (lexeme_tokens rest xs left h (back_scalars x.text rest w) v.1 following)
     where
       w : all_scalars (x.text ++ rest) ≡ true
       w = subst (λ z. all_scalars z ≡ true) parts s
@@ -65,11 +65,11 @@ module _ (p : ℕ → Bool) (fault : Kind → List ℕ → Option TokenError) wh
       v = and_parts (list_all p x.text) (list_all p rest) (sym (list_all-append p x.text rest) ∙ subst (λ z. list_all p z ≡ true) parts q)
 
       by : (b : Bool) → is_gap x.«class» ≡ b
-          → has_one fault (cond b (tokens_of xs) (field_token x.«class» x.text ∷ tokens_of xs) ++ behind) ≡ false
-          → (has_one fault (tokens_of xs ++ behind) ≡ false → AllTokens p fault xs) → AllTokens p fault (x ∷ xs)
+          → has_one fault (cond b (tokens_of xs) (field_token x.«class» x.text ∷ tokens_of xs) ++ following) ≡ false
+          → (has_one fault (tokens_of xs ++ following) ≡ false → AllTokens p fault xs) → AllTokens p fault (x ∷ xs)
       by true e n more = a_gap e (more n)
       by false e n more =
-          let f = or_parts (is_some (fault (kind_of x.«class» true) x.text)) (has_one fault (tokens_of xs ++ behind)) n in
+          let f = or_parts (is_some (fault (kind_of x.«class» true) x.text)) (has_one fault (tokens_of xs ++ following)) n in
           a_token e
           (record {
             before = text;

@@ -11,7 +11,7 @@ use Rattle.std.proofs.lemmas.Bool.Decides.{nat_tests}
 use Rattle.pyfstring.specs.Characters.{backslash, equals_sign, hash}
 use Rattle.pyfstring.specs.Texts.{begins_with}
 use Rattle.pyfstring.specs.Expressions.{is_quote, is_refused, is_end, is_empty, is_last, most_open, opened_by, closed_by, begins_comparison}
-use Rattle.pyfstring.specs.Expressions.{begins_three, step, Inside, expression, shortstring, longstring, scan, behind_expression}
+use Rattle.pyfstring.specs.Expressions.{begins_three, step, Inside, expression, shortstring, longstring, scan, following_expression}
 use Rattle.pygrammar.proofs.Callers.OpenStrings.{none_some}
 use Rattle.pyunparse_text.proofs.FieldTexts.Characters.{Bracket}
 
@@ -178,6 +178,6 @@ scan_calm expression opened zero (c ∷ t) rest k h = at_expression t rest (λ i
 scan_calm (shortstring q) opened zero (c ∷ t) rest k h = in_short t rest (λ i o n. scan_calm i o n t rest) q opened c h
 scan_calm (longstring q) opened zero (c ∷ t) rest k h = in_long t rest (λ i o n. scan_calm i o n t rest) q opened c h
 
-pub expression_calm : (t rest : List ℕ) → behind_expression (t ++ rest) ≡ Some rest → list_all is_no_backslash t ≡ true
-unfolding behind_expression
+pub expression_calm : (t rest : List ℕ) → following_expression (t ++ rest) ≡ Some rest → list_all is_no_backslash t ≡ true
+unfolding following_expression
 expression_calm t rest h = scan_calm expression [] 0 t rest tt h

@@ -38,7 +38,7 @@ literal_from base t a b c p q r =
     ∙ append_assoc (base ++ (98 ∷ (34 ∷ []))) (encode_utf8_all t) (34 ∷ [])
     ∙ append_assoc base (98 ∷ (34 ∷ [])) (encode_utf8_all t ++ (34 ∷ [])) ∙ ap (λ z. base ++ z) (sym (quoted_literal t))
 
--- behind a loop over all of them
+-- after a loop over all of them
 pub pushed_all : (f : ℕ → List ℕ) (xs : List ℕ) (i : ℕ) (base new : List ℕ) → length xs ≤ i
     → new ≡ base ++ flat_map (λ x. encode_utf8_all (f x)) (take i xs) → new ≡ base ++ encode_utf8_all (flat_map f xs)
 pushed_all f xs i base new h e =

@@ -9,7 +9,7 @@ use Rattle.pyfstring.specs.Texts.{begins_with}
 use Rattle.pylex_lexeme.specs.Characters.{left_curly_bracket}
 use Rattle.pyunparse_text.specs.Spacing.{Piece}
 use Rattle.pyunparse_text.specs.declared.edges.Edge.{Edge}
-use Rattle.pyunparse_text.specs.Writing.{behind, blank, edge_of}
+use Rattle.pyunparse_text.specs.Writing.{following, blank, edge_of}
 use Rattle.pyunparse_text.proofs.Texts.WritingLemmas.{same_brace, same_sign}
 
 more : (xs : List ℕ) (b : ℕ) → bytes_eq (xs ++ b ∷ []) [] ≡ false
@@ -21,7 +21,7 @@ long : (a b s : ℕ) (xs : List ℕ) → bytes_eq (a ∷ (xs ++ b ∷ [])) (s �
 long a b s xs = ap (λ z. (a == s) && z) (more xs b) ∙ and-false (a == s)
 
 abbrev pub literal : List ℕ → Piece
-literal t = record { kind = kinds.String; text = t; before = false; behind = false }
+literal t = record { kind = kinds.String; text = t; before = false; following = false }
 
 -- no sign that the spacing asks for
 pub record IsNoSign (t : List ℕ) : Type 0 where

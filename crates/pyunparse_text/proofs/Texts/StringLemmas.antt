@@ -12,17 +12,17 @@ use Rattle.pyfstring.specs.declared.parts.Conversion.TheVariants as conversions
 use Rattle.pyfstring.specs.Texts.{begins_with}
 use Rattle.pylex_lexeme.specs.Characters.{left_curly_bracket}
 use Rattle.pylex_listing.specs.declared.kind.Kind.TheVariants as kinds
-use Rattle.pyunparse_text.specs.Spacing.{Piece, text_behind}
+use Rattle.pyunparse_text.specs.Spacing.{Piece, text_following}
 use Rattle.pyunparse_text.specs.Written.{Element, Text, Field, Spec, End}
 use Rattle.pyunparse_text.specs.Pieces.{Sited, conversion_text, element_text, field_text, formatted_text, open_text, quote, sited_string}
 use Rattle.pyunparse_text.specs.Folds.{Begin, BeginField, EndExpression, in_utf8, puts, puts_element, puts_elements, sited_in_utf8}
-use Rattle.pyunparse_text.specs.Writing.{Writing, a_string, behind, behind_sited, blank, edge_of, field_edge, more, stepped}
+use Rattle.pyunparse_text.specs.Writing.{Writing, a_string, following, after_sited, blank, edge_of, field_edge, more, stepped}
 use Rattle.pyunparse_text.specs.Tokens.{PlainToken}
-use Rattle.pyunparse_text.specs.Told.{Listed, behind_in, field_of, is_field, listed, listed_behind, listed_stepped, or_none}
+use Rattle.pyunparse_text.specs.Told.{Listed, after_in, field_of, is_field, listed, listed_after, listed_stepped, or_none}
 use Rattle.pyunparse_text.proofs.Texts.SpaceLemmas.{IsNoSign, literal, quoted_sign, same_blank, same_edge}
-use Rattle.pyunparse_text.proofs.Texts.WritingLemmas.{at, behind_text, level_kept, same_brace}
+use Rattle.pyunparse_text.proofs.Texts.WritingLemmas.{at, after_text, level_kept, same_brace}
 
--- the blank behind the brace of a field
+-- the blank after the brace of a field
 brace_gap : (b : Bool) → (if not b && true then [] else 32 ∷ []) ≡ encode_utf8_all (if b then 32 ∷ [] else [])
 unfolding encode_utf8
 brace_gap true = refl
@@ -45,19 +45,19 @@ brace_bytes t = refl
 
 -- what a field's expression is written in
 field_written : (v : Writing) (ps : List Sited)
-    → (puts behind_sited (stepped v BeginField) ps).text ≡ v.text ++ encode_utf8_all (field_text (at true ps))
+    → (puts after_sited (stepped v BeginField) ps).text ≡ v.text ++ encode_utf8_all (field_text (at true ps))
 field_written v [] = ap (λ z. v.text ++ z) (sym (brace_bytes []))
 field_written v (p ∷ ps) =
     let here = p true in
     let gap = if begins_with left_curly_bracket here.text then 32 ∷ [] else [] in
-    behind_text (behind (stepped v BeginField) (in_utf8 here)) here ps refl
-    ∙ ap (λ z. ((v.text ++ (123 ∷ [])) ++ (z ++ encode_utf8_all here.text)) ++ encode_utf8_all (text_behind here (at true ps)))
+    after_text (following (stepped v BeginField) (in_utf8 here)) here ps refl
+    ∙ ap (λ z. ((v.text ++ (123 ∷ [])) ++ (z ++ encode_utf8_all here.text)) ++ encode_utf8_all (text_following here (at true ps)))
     (field_blank here)
-    ∙ joined v.text (encode_utf8_all gap) (encode_utf8_all here.text) (encode_utf8_all (text_behind here (at true ps)))
+    ∙ joined v.text (encode_utf8_all gap) (encode_utf8_all here.text) (encode_utf8_all (text_following here (at true ps)))
     ∙ ap (λ z. v.text ++ (123 ∷ z))
-    (sym (encodes-append gap (here.text ++ text_behind here (at true ps)) ∙ ap (λ z. encode_utf8_all gap ++ z)
-    (encodes-append here.text (text_behind here (at true ps)))))
-    ∙ ap (λ z. v.text ++ z) (sym (brace_bytes (gap ++ (here.text ++ text_behind here (at true ps)))))
+    (sym (encodes-append gap (here.text ++ text_following here (at true ps)) ∙ ap (λ z. encode_utf8_all gap ++ z)
+    (encodes-append here.text (text_following here (at true ps)))))
+    ∙ ap (λ z. v.text ++ z) (sym (brace_bytes (gap ++ (here.text ++ text_following here (at true ps)))))
   where
     joined : (a b c d : List ℕ) → ((a ++ (123 ∷ [])) ++ (b ++ c)) ++ d ≡ a ++ (123 ∷ (b ++ (c ++ d)))
     joined a b c d =
@@ -70,14 +70,14 @@ record Between (is_in_field : Bool) (w : Writing) : Type 0 where
   field : w.in_field ≡ is_in_field
 
 element_put : (b : Bool) (v : Writing) (e : Element Sited) → Between b v
-    → puts_element behind_sited stepped b v e ≡ more v (encode_utf8_all (element_text b e))
+    → puts_element after_sited stepped b v e ≡ more v (encode_utf8_all (element_text b e))
 unfolding encode_utf8
 element_put b v (Text s t) k = refl
 element_put b v Spec k = refl
 element_put b v End k = refl
 element_put b v (Field c ps) k =
-    let level : (puts behind_sited (stepped v BeginField) ps).level ≡ v.level = level_kept (stepped v BeginField) ps in
-    let text : (puts behind_sited (stepped v BeginField) ps).text ++ conversion_text c ≡ v.text ++ encode_utf8_all
+    let level : (puts after_sited (stepped v BeginField) ps).level ≡ v.level = level_kept (stepped v BeginField) ps in
+    let text : (puts after_sited (stepped v BeginField) ps).text ++ conversion_text c ≡ v.text ++ encode_utf8_all
     (field_text (at true ps) ++ conversion_text c) =
     ap (λ z. z ++ conversion_text c) (field_written v ps)
     ∙ append_assoc v.text (encode_utf8_all (field_text (at true ps))) (conversion_text c)
@@ -86,12 +86,12 @@ element_put b v (Field c ps) k =
     (λ i. record { text = text i; last = sym k.last i; level = level i; in_field = sym k.field i })
 
 elements_put : (b : Bool) (v : Writing) (es : List (Element Sited)) → Between b v
-    → puts_elements behind_sited stepped b v es ≡ more v (encode_utf8_all (flat_map (element_text b) es))
+    → puts_elements after_sited stepped b v es ≡ more v (encode_utf8_all (flat_map (element_text b) es))
 elements_put b v [] k = (λ i. record { text = sym (append-nil v.text) i; last = v.last; level = v.level; in_field = v.in_field })
 elements_put b v (e ∷ es) k =
     let t = encode_utf8_all (element_text b e) in
     let u = encode_utf8_all (flat_map (element_text b) es) in
-    ap (λ z. puts_elements behind_sited stepped b z es) (element_put b v e k)
+    ap (λ z. puts_elements after_sited stepped b z es) (element_put b v e k)
     ∙ elements_put b (more v t) es (record { last = k.last; field = k.field })
     ∙
     (λ i. record {
@@ -118,8 +118,8 @@ opening_bytes true t = refl
 opening_bytes false t = refl
 
 pub string_is_token : (w : Writing) (es : List (Element Sited)) →
-    more (puts_elements behind_sited stepped w.in_field (stepped w Begin) es)
-    (quote w.in_field ∷ []) ≡ behind_sited w (sited_in_utf8 (sited_string es))
+    more (puts_elements after_sited stepped w.in_field (stepped w Begin) es)
+    (quote w.in_field ∷ []) ≡ after_sited w (sited_in_utf8 (sited_string es))
 string_is_token w es =
     let b = w.in_field in
     let inner = flat_map (element_text b) es in
@@ -139,40 +139,40 @@ string_is_token w es =
     regrouped a c d e f = append_assoc (a ++ (c ++ d)) e f ∙ append_assoc a (c ++ d) (e ++ f) ∙ ap (λ z. a ++ z) (append_assoc c d (e ++ f))
 
 pub string_ends : (w v u : Writing) (b : Bool) (es : List (Element Sited)) → b ≡ w.in_field
-    → v ≡ puts_elements behind_sited stepped b (stepped w Begin) es → u ≡ more v (quote b ∷ []) →
-    u ≡ behind_sited w (sited_in_utf8 (sited_string es))
+    → v ≡ puts_elements after_sited stepped b (stepped w Begin) es → u ≡ more v (quote b ∷ []) →
+    u ≡ after_sited w (sited_in_utf8 (sited_string es))
 string_ends w v u b es h e f =
-    f ∙ ap (λ z. more z (quote b ∷ [])) e ∙ ap (λ x. more (puts_elements behind_sited stepped x (stepped w Begin) es) (quote x ∷ [])) h
+    f ∙ ap (λ z. more z (quote b ∷ [])) e ∙ ap (λ x. more (puts_elements after_sited stepped x (stepped w Begin) es) (quote x ∷ [])) h
     ∙ string_is_token w es
 
--- ---- In a list of tokens. The f-string that is open behind them is a text of its own.
+-- ---- In a list of tokens. The f-string that is open after them is a text of its own.
 
-abbrev open_behind : List PlainToken → Writing → Listed
-open_behind ts w = record { tokens = ts; string = Some w }
+abbrev open_following : List PlainToken → Writing → Listed
+open_following ts w = record { tokens = ts; string = Some w }
 
 -- what is written in a field is written into it
 put_in : (ts : List PlainToken) (w : Writing) (ps : List Sited) → w.in_field ≡ true
-    → puts listed_behind (open_behind ts w) ps ≡ open_behind ts (puts behind_sited w ps)
+    → puts listed_after (open_following ts w) ps ≡ open_following ts (puts after_sited w ps)
 put_in ts w [] h = refl
-put_in ts w (p ∷ ps) h = ap (λ z. puts listed_behind z ps) one ∙ put_in ts (behind_sited w (sited_in_utf8 p)) ps h
+put_in ts w (p ∷ ps) h = ap (λ z. puts listed_after z ps) one ∙ put_in ts (after_sited w (sited_in_utf8 p)) ps h
   where
-    one : listed_behind (open_behind ts w) (sited_in_utf8 p) ≡ open_behind ts (behind_sited w (sited_in_utf8 p))
-    one = ap (λ b. behind_in ts (if b then Some w else None) (sited_in_utf8 p)) h
-        ∙ ap (λ b. open_behind ts (behind w (sited_in_utf8 p b))) (sym h)
+    one : listed_after (open_following ts w) (sited_in_utf8 p) ≡ open_following ts (after_sited w (sited_in_utf8 p))
+    one = ap (λ b. after_in ts (if b then Some w else None) (sited_in_utf8 p)) h
+        ∙ ap (λ b. open_following ts (following w (sited_in_utf8 p b))) (sym h)
 
 element_in : (b : Bool) (ts : List PlainToken) (w : Writing) (e : Element Sited)
-    → puts_element listed_behind listed_stepped b (open_behind ts w) e ≡ open_behind ts (puts_element behind_sited stepped b w e)
+    → puts_element listed_after listed_stepped b (open_following ts w) e ≡ open_following ts (puts_element after_sited stepped b w e)
 element_in b ts w (Text s t) = refl
 element_in b ts w Spec = refl
 element_in b ts w End = refl
 element_in b ts w (Field c ps) = ap (λ z. listed_stepped z (EndExpression b c)) (put_in ts (stepped w BeginField) ps refl)
 
 elements_in : (b : Bool) (ts : List PlainToken) (w : Writing) (es : List (Element Sited))
-    → puts_elements listed_behind listed_stepped b (open_behind ts w) es ≡ open_behind ts (puts_elements behind_sited stepped b w es)
+    → puts_elements listed_after listed_stepped b (open_following ts w) es ≡ open_following ts (puts_elements after_sited stepped b w es)
 elements_in b ts w [] = refl
 elements_in b ts w (e ∷ es) =
-    ap (λ z. puts_elements listed_behind listed_stepped b z es) (element_in b ts w e)
-    ∙ elements_in b ts (puts_element behind_sited stepped b w e) es
+    ap (λ z. puts_elements listed_after listed_stepped b z es) (element_in b ts w e)
+    ∙ elements_in b ts (puts_element after_sited stepped b w e) es
 
 -- the text that an f-string is written into
 abbrev pub around : Listed → Writing
@@ -190,72 +190,72 @@ site_of l = by l.string
     by (Some w) = at w w.in_field refl
 
 -- with the elements of an open f-string
-opened_text : (b : Bool) (l m : Listed) (es : List (Element Sited)) → m ≡ puts_elements listed_behind listed_stepped b
+opened_text : (b : Bool) (l m : Listed) (es : List (Element Sited)) → m ≡ puts_elements listed_after listed_stepped b
     (listed_stepped l Begin) es →
-    m ≡ open_behind l.tokens (puts_elements behind_sited stepped b (stepped (around l) Begin) es)
+    m ≡ open_following l.tokens (puts_elements after_sited stepped b (stepped (around l) Begin) es)
 opened_text b l m es e = e ∙ elements_in b l.tokens (stepped (around l) Begin) es
 
 -- it ends: in a field it is written into the text around it, elsewhere it is the next token
-ends_in_field : (l : Listed) (w : Writing) (p : Sited) → is_field l.string ≡ true → w ≡ behind_sited (around l) p
-    → open_behind l.tokens w ≡ listed_behind l p
+ends_in_field : (l : Listed) (w : Writing) (p : Sited) → is_field l.string ≡ true → w ≡ after_sited (around l) p
+    → open_following l.tokens w ≡ listed_after l p
 ends_in_field l w p h e = by l.string h e
   where
-    at : (v : Writing) (b : Bool) → v.in_field ≡ b → b ≡ true → w ≡ behind_sited (or_none (if b then Some v else None)) p
-        → open_behind l.tokens w ≡ behind_in l.tokens (if b then Some v else None) p
-    at v true q h e = ap (open_behind l.tokens) (e ∙ ap (λ x. behind v (p x)) q)
+    at : (v : Writing) (b : Bool) → v.in_field ≡ b → b ≡ true → w ≡ after_sited (or_none (if b then Some v else None)) p
+        → open_following l.tokens w ≡ after_in l.tokens (if b then Some v else None) p
+    at v true q h e = ap (open_following l.tokens) (e ∙ ap (λ x. following v (p x)) q)
     at v false q h e = absurd (cc)
 
-    by : (o : Option Writing) → is_field o ≡ true → w ≡ behind_sited (or_none (field_of o)) p
-        → open_behind l.tokens w ≡ behind_in l.tokens (field_of o) p
+    by : (o : Option Writing) → is_field o ≡ true → w ≡ after_sited (or_none (field_of o)) p
+        → open_following l.tokens w ≡ after_in l.tokens (field_of o) p
     by None h e = absurd (cc)
     by (Some v) h e = at v v.in_field refl h e
 
 ends_outside : (l : Listed) (w : Writing) (es : List (Element Sited)) → is_field l.string ≡ false
-    → w ≡ behind_sited (around l) (sited_in_utf8 (sited_string es)) →
-    listed (l.tokens ++ record { kind = kinds.String; text = w.text } ∷ []) ≡ listed_behind l (sited_in_utf8 (sited_string es))
+    → w ≡ after_sited (around l) (sited_in_utf8 (sited_string es)) →
+    listed (l.tokens ++ record { kind = kinds.String; text = w.text } ∷ []) ≡ listed_after l (sited_in_utf8 (sited_string es))
 ends_outside l w es h e = by l.string h e
   where
-    at : (v : Writing) (b : Bool) → b ≡ false → w ≡ behind_sited (or_none (if b then Some v else None)) (sited_in_utf8 (sited_string es))
-        → listed (l.tokens ++ record { kind = kinds.String; text = w.text } ∷ []) ≡ behind_in l.tokens (if b then Some v else None)
+    at : (v : Writing) (b : Bool) → b ≡ false → w ≡ after_sited (or_none (if b then Some v else None)) (sited_in_utf8 (sited_string es))
+        → listed (l.tokens ++ record { kind = kinds.String; text = w.text } ∷ []) ≡ after_in l.tokens (if b then Some v else None)
         (sited_in_utf8 (sited_string es))
     at v true h e = absurd (cc)
     at v false h e = ap (λ (z : Writing). listed (l.tokens ++ record { kind = kinds.String; text = z.text } ∷ [])) e
 
-    by : (o : Option Writing) → is_field o ≡ false → w ≡ behind_sited (or_none (field_of o)) (sited_in_utf8 (sited_string es))
-        → listed (l.tokens ++ record { kind = kinds.String; text = w.text } ∷ []) ≡ behind_in l.tokens (field_of o)
+    by : (o : Option Writing) → is_field o ≡ false → w ≡ after_sited (or_none (field_of o)) (sited_in_utf8 (sited_string es))
+        → listed (l.tokens ++ record { kind = kinds.String; text = w.text } ∷ []) ≡ after_in l.tokens (field_of o)
         (sited_in_utf8 (sited_string es))
     by None h e = ap (λ (z : Writing). listed (l.tokens ++ record { kind = kinds.String; text = z.text } ∷ [])) e
     by (Some v) h e = at v v.in_field h e
 
 -- what ends is open
-pub not_closed : (b : Bool) (l m : Listed) (es : List (Element Sited)) → m ≡ puts_elements listed_behind listed_stepped b
+pub not_closed : (b : Bool) (l m : Listed) (es : List (Element Sited)) → m ≡ puts_elements listed_after listed_stepped b
     (listed_stepped l Begin) es
     → m.string ≡ None → ⊥
-not_closed b l m es e n = let t : m.string ≡ Some (puts_elements behind_sited stepped b (stepped (around l) Begin) es) =
+not_closed b l m es e n = let t : m.string ≡ Some (puts_elements after_sited stepped b (stepped (around l) Begin) es) =
     ap (λ z. z.string) (opened_text b l m es e) in absurd (cc)
 
 -- the text of an f-string that ends
 abbrev pub IsEnded : Bool → Writing → Writing → Type 0
-IsEnded b w x = (v : Writing) (es : List (Element Sited)) → b ≡ v.in_field → w ≡ puts_elements behind_sited stepped b (stepped v Begin) es
-    → x ≡ behind_sited v (sited_in_utf8 (sited_string es))
+IsEnded b w x = (v : Writing) (es : List (Element Sited)) → b ≡ v.in_field → w ≡ puts_elements after_sited stepped b (stepped v Begin) es
+    → x ≡ after_sited v (sited_in_utf8 (sited_string es))
 
 module _ (b : Bool) (l m : Listed) (w x : Writing) (es : List (Element Sited))
-    (site : b ≡ is_field l.string) (opened : m ≡ puts_elements listed_behind listed_stepped b (listed_stepped l Begin) es)
+    (site : b ≡ is_field l.string) (opened : m ≡ puts_elements listed_after listed_stepped b (listed_stepped l Begin) es)
     (is : m.string ≡ Some w)
     (ended : IsEnded b w x) where
-  text_is : x ≡ behind_sited (around l) (sited_in_utf8 (sited_string es))
+  text_is : x ≡ after_sited (around l) (sited_in_utf8 (sited_string es))
   text_is =
-      let t : Some w ≡ Some (puts_elements behind_sited stepped b (stepped (around l) Begin) es) =
+      let t : Some w ≡ Some (puts_elements after_sited stepped b (stepped (around l) Begin) es) =
       sym is ∙ ap (λ z. z.string) (opened_text b l m es opened) in
       ended (around l) es (site ∙ site_of l) (cc)
 
-  pub ended_in_field : b ≡ true → record { tokens = m.tokens; string = Some x } ≡ listed_behind l (sited_in_utf8 (sited_string es))
+  pub ended_in_field : b ≡ true → record { tokens = m.tokens; string = Some x } ≡ listed_after l (sited_in_utf8 (sited_string es))
   ended_in_field h =
-      ap (λ (z : Listed). open_behind z.tokens x) (opened_text b l m es opened)
+      ap (λ (z : Listed). open_following z.tokens x) (opened_text b l m es opened)
       ∙ ends_in_field l x (sited_in_utf8 (sited_string es)) (sym site ∙ h) text_is
 
   pub ended_outside : b ≡ false
-      → listed (m.tokens ++ record { kind = kinds.String; text = x.text } ∷ []) ≡ listed_behind l (sited_in_utf8 (sited_string es))
+      → listed (m.tokens ++ record { kind = kinds.String; text = x.text } ∷ []) ≡ listed_after l (sited_in_utf8 (sited_string es))
   ended_outside h =
       ap (λ (z : Listed). listed (z.tokens ++ record { kind = kinds.String; text = x.text } ∷ [])) (opened_text b l m es opened)
       ∙ ends_outside l x es (sym site ∙ h) text_is

@@ -15,7 +15,7 @@ use Rattle.pyunparse_text.specs.Marks.{in_role, is_close_after, is_close_before}
 use Rattle.pyunparse_text.specs.declared.marks.Role.{Role}
 use Rattle.pyunparse_text.specs.declared.marks.Role.TheVariants as roles
 use Rattle.pyunparse_text.specs.Folds.{Step, anywhere, in_utf8, puts, puts_element, puts_elements, sited_in_utf8}
-use Rattle.pyunparse_text.specs.Told.{in_bytes, listed, listed_behind}
+use Rattle.pyunparse_text.specs.Told.{in_bytes, listed, listed_after}
 
 -- the texts of operators are ASCII
 sign_bytes : (x : Exact) → encode_utf8_all (exact_text x) ≡ exact_text x
@@ -25,14 +25,14 @@ sign_bytes _ = refl
 
 -- an operator by the two sides of its role
 pub sign_put : (r : Role) (x : Exact) (t : List ℕ) → t ≡ exact_text x
-    → anywhere (record { kind = kinds.Op; text = t; before = is_close_before r; behind = is_close_after r }) ≡ sited_in_utf8 (in_role r x)
-sign_put roles.Free x t e = (λ i b. record { kind = kinds.Op; text = (e ∙ sym (sign_bytes x)) i; before = false; behind = false })
-sign_put roles.Leading x t e = (λ i b. record { kind = kinds.Op; text = (e ∙ sym (sign_bytes x)) i; before = false; behind = true })
-sign_put roles.Trailing x t e = (λ i b. record { kind = kinds.Op; text = (e ∙ sym (sign_bytes x)) i; before = true; behind = false })
-sign_put roles.Tight x t e = (λ i b. record { kind = kinds.Op; text = (e ∙ sym (sign_bytes x)) i; before = true; behind = true })
+    → anywhere (record { kind = kinds.Op; text = t; before = is_close_before r; following = is_close_after r }) ≡ sited_in_utf8 (in_role r x)
+sign_put roles.Free x t e = (λ i b. record { kind = kinds.Op; text = (e ∙ sym (sign_bytes x)) i; before = false; following = false })
+sign_put roles.Leading x t e = (λ i b. record { kind = kinds.Op; text = (e ∙ sym (sign_bytes x)) i; before = false; following = true })
+sign_put roles.Trailing x t e = (λ i b. record { kind = kinds.Op; text = (e ∙ sym (sign_bytes x)) i; before = true; following = false })
+sign_put roles.Tight x t e = (λ i b. record { kind = kinds.Op; text = (e ∙ sym (sign_bytes x)) i; before = true; following = true })
 
 -- tokens that are written into a list where no f-string is open
-pub tokens_put : (ts : List PlainToken) (ps : List Sited) → puts listed_behind (listed ts) ps ≡ listed (ts ++ map in_bytes (outside ps))
+pub tokens_put : (ts : List PlainToken) (ps : List Sited) → puts listed_after (listed ts) ps ≡ listed (ts ++ map in_bytes (outside ps))
 tokens_put ts [] = ap listed (sym (append-nil ts))
 tokens_put ts (p ∷ ps) =
     tokens_put (ts ++ token_of (in_utf8 (p false)) ∷ []) ps

@@ -1,4 +1,4 @@
--- Carries: the lines of a module. What is behind tokens that are written into a text.
+-- Carries: the lines of a module. What is after tokens that are written into a text.
 use Rattle.std.proofs.Common.{◌≡◌, ◌∙◌, ℕ, ◌+◌, ◌/◌, ◌%◌, ◌<◌, arith, Bool, true, false, cond, ◌==◌, if◌then◌else◌, List, [], ◌∷◌}
 use Rattle.std.proofs.Common.{◌++◌, map}
 use Rattle.std.proofs.Common.{Some, None, refl, ap, sym, append-nil, append_assoc, codes}
@@ -11,11 +11,11 @@ use Rattle.std.proofs.lemmas.Str.{encodes-append, encodes_same}
 use Rattle.std.proofs.Math.Bool.{and-false, and-true}
 use Rattle.pyfstring.specs.Texts.{begins_with}
 use Rattle.pylex_lexeme.specs.Characters.{left_curly_bracket}
-use Rattle.pyunparse_text.specs.Spacing.{Piece, spaced, text_behind, touches}
+use Rattle.pyunparse_text.specs.Spacing.{Piece, spaced, text_following, touches}
 use Rattle.pyunparse_text.specs.Statements.{is_star}
 use Rattle.pyunparse_text.specs.Pieces.{Sited}
 use Rattle.pyunparse_text.specs.Folds.{in_utf8, puts, sited_in_utf8}
-use Rattle.pyunparse_text.specs.Writing.{Writing, behind, behind_sited, blank, edge_of, meets}
+use Rattle.pyunparse_text.specs.Writing.{Writing, following, after_sited, blank, edge_of, meets}
 
 -- a text is a sign where its bytes are
 pub same_sign : (t s : List ℕ) → encode_utf8_all s ≡ s → bytes_eq (encode_utf8_all t) s ≡ bytes_eq t s
@@ -68,37 +68,37 @@ gap false = refl
 abbrev pub at : Bool → List Sited → List Piece
 at is_in_field ps = map (λ p. p is_in_field) ps
 
--- behind a token of the line
-pub behind_text : (w : Writing) (p : Piece) (ps : List Sited) → w.last ≡ Some (edge_of (in_utf8 p)) →
-    (puts behind_sited w ps).text ≡ w.text ++ encode_utf8_all (text_behind p (at w.in_field ps))
-behind_text w p [] e = sym (append-nil w.text)
-behind_text w p (q ∷ qs) e =
+-- after a token of the line
+pub after_text : (w : Writing) (p : Piece) (ps : List Sited) → w.last ≡ Some (edge_of (in_utf8 p)) →
+    (puts after_sited w ps).text ≡ w.text ++ encode_utf8_all (text_following p (at w.in_field ps))
+after_text w p [] e = sym (append-nil w.text)
+after_text w p (q ∷ qs) e =
     let here = q w.in_field in
     let gap_is : blank w.last (in_utf8 here) ≡ encode_utf8_all (if touches p here then [] else 32 ∷ []) =
     ap (λ o. blank o (in_utf8 here)) e ∙ ap (λ b. if b then [] else 32 ∷ []) (meets_same p here) ∙ gap (touches p here) in
-    let rest : List ℕ = encode_utf8_all (text_behind here (at w.in_field qs)) in
-    behind_text (behind w (in_utf8 here)) here qs refl
+    let rest : List ℕ = encode_utf8_all (text_following here (at w.in_field qs)) in
+    after_text (following w (in_utf8 here)) here qs refl
     ∙ ap (λ z. (w.text ++ (z ++ encode_utf8_all here.text)) ++ rest) gap_is
     ∙ append_assoc w.text (encode_utf8_all (if touches p here then [] else 32 ∷ []) ++ encode_utf8_all here.text) rest
     ∙ ap (λ z. w.text ++ z) (append_assoc (encode_utf8_all (if touches p here then [] else 32 ∷ [])) (encode_utf8_all here.text) rest
-    ∙ sym (encodes-append (if touches p here then [] else 32 ∷ []) (here.text ++ text_behind here (at w.in_field qs))
+    ∙ sym (encodes-append (if touches p here then [] else 32 ∷ []) (here.text ++ text_following here (at w.in_field qs))
     ∙ ap (λ z. encode_utf8_all (if touches p here then [] else 32 ∷ []) ++ z)
-    (encodes-append here.text (text_behind here (at w.in_field qs)))))
+    (encodes-append here.text (text_following here (at w.in_field qs)))))
 
 -- a line's tokens
 pub line_written : (w : Writing) (ps : List Sited) → w.last ≡ None
-    → (puts behind_sited w ps).text ≡ w.text ++ encode_utf8_all (spaced (at w.in_field ps))
+    → (puts after_sited w ps).text ≡ w.text ++ encode_utf8_all (spaced (at w.in_field ps))
 line_written w [] e = sym (append-nil w.text)
 line_written w (p ∷ ps) e =
     let here = p w.in_field in
-    behind_text (behind w (in_utf8 here)) here ps refl
-    ∙ ap (λ o. (w.text ++ (blank o (in_utf8 here) ++ encode_utf8_all here.text)) ++ encode_utf8_all (text_behind here (at w.in_field ps))) e
-    ∙ append_assoc w.text (encode_utf8_all here.text) (encode_utf8_all (text_behind here (at w.in_field ps)))
-    ∙ ap (λ z. w.text ++ z) (sym (encodes-append here.text (text_behind here (at w.in_field ps))))
+    after_text (following w (in_utf8 here)) here ps refl
+    ∙ ap (λ o. (w.text ++ (blank o (in_utf8 here) ++ encode_utf8_all here.text)) ++ encode_utf8_all (text_following here (at w.in_field ps))) e
+    ∙ append_assoc w.text (encode_utf8_all here.text) (encode_utf8_all (text_following here (at w.in_field ps)))
+    ∙ ap (λ z. w.text ++ z) (sym (encodes-append here.text (text_following here (at w.in_field ps))))
 
-pub level_kept : (w : Writing) (ps : List Sited) → (puts behind_sited w ps).level ≡ w.level
+pub level_kept : (w : Writing) (ps : List Sited) → (puts after_sited w ps).level ≡ w.level
 level_kept w [] = refl
-level_kept w (p ∷ ps) = level_kept (behind_sited w (sited_in_utf8 p)) ps
+level_kept w (p ∷ ps) = level_kept (after_sited w (sited_in_utf8 p)) ps
 
 -- a name is `*` where its bytes are
 pub star_bytes : (t : List ℕ) → bytes_eq (encode_utf8_all t) (codes "*") ≡ is_star t None

@@ -13,11 +13,11 @@ use Rattle.pylex_lexeme.proofs.Callers.Lexemes.{by_words}
 use Rattle.pyunparse_text.specs.Spacing.{Piece, is_token, is_operator_kind, touches, stay_apart}
 use Rattle.pyunparse_text.specs.Inner.Edges.{begins_item, is_among, closings, leading, openings, trailing}
 use Rattle.pyunparse_text.specs.Inner.Edges.{begins_expression}
-use Rattle.pyunparse_text.specs.Inner.Edges.{ends_expression, is_free_behind, is_free_before, is_sign, fit, are_neat, begins_by, ends_by}
+use Rattle.pyunparse_text.specs.Inner.Edges.{ends_expression, is_free_after, is_free_before, is_sign, fit, are_neat, begins_by, ends_by}
 use Rattle.pyunparse_text.proofs.LexemeFronts.PieceFronts.{ArePieces}
 use Rattle.pyunparse_text.proofs.Listings.Runs.{AreScalar}
 use Rattle.pyunparse_text.proofs.TokenLists.Joins.{neat_both, begins_both, ends_both}
-use Rattle.pyunparse_text.proofs.TokenLists.Joins.{behind_leading}
+use Rattle.pyunparse_text.proofs.TokenLists.Joins.{after_leading}
 use Rattle.pyunparse_text.proofs.TokenLists.Joins.{before_trailing}
 
 -- pieces that begin and end by these tests
@@ -65,9 +65,9 @@ weaker b c e f g h xs x = record {
     last (p ∷ q ∷ xs) s = last (q ∷ xs) s
 
 -- Neighbours that fit
-pub blank_fits : (p q : Piece) → is_free_behind p ≡ true → is_free_before q ≡ true → fit p q ≡ true
+pub blank_fits : (p q : Piece) → is_free_after p ≡ true → is_free_before q ≡ true → fit p q ≡ true
 blank_fits p q a b =
-    let x = not-true p.behind a in
+    let x = not-true p.following a in
     let y = not-true q.before b in
     let t : touches p q ≡ false = rw (x, y) refl in
     rw t refl
@@ -80,13 +80,13 @@ apart_fits p q e = last (not (touches p q)) (stay_apart p q) e
     last false b e = e
 
 pub leading_fits : (p q : Piece) → is_sign leading p ≡ true → begins_expression q ≡ true → fit p q ≡ true
-leading_fits p q a b = apart_fits p q (behind_leading p q a b)
+leading_fits p q a b = apart_fits p q (after_leading p q a b)
 
 pub trailing_fits : (p q : Piece) → ends_expression p ≡ true → is_sign trailing q ≡ true → fit p q ≡ true
 trailing_fits p q a b = apart_fits p q (before_trailing p q a b)
 
-pub free_behind : (p : Piece) → ends_expression p ≡ true → is_free_behind p ≡ true
-free_behind p e = (and_parts (not (is_operator_kind p.kind) || is_among closings p.text) (not p.behind)
+pub free_after : (p : Piece) → ends_expression p ≡ true → is_free_after p ≡ true
+free_after p e = (and_parts (not (is_operator_kind p.kind) || is_among closings p.text) (not p.following)
     (and_parts (is_token p.kind p.text) _ e).1).1
 
 pub free_before : (p : Piece) → begins_expression p ≡ true → is_free_before p ≡ true
@@ -97,7 +97,7 @@ free_before p e = (and_parts (not (is_operator_kind p.kind) || is_among openings
 abbrev pub Expression : List Piece → Type 0
 Expression ps = Written begins_expression ends_expression ps
 
-pub one_piece : (p : Piece) → is_token p.kind p.text ≡ true → is_operator_kind p.kind ≡ false → p.before ≡ false → p.behind ≡ false
+pub one_piece : (p : Piece) → is_token p.kind p.text ≡ true → is_operator_kind p.kind ≡ false → p.before ≡ false → p.following ≡ false
     → all_scalars p.text ≡ true → Expression (p ∷ [])
 one_piece p t o l r s = record {
   pieces = rw t refl;
@@ -114,16 +114,16 @@ one_sign f p t s e = record { pieces = rw t refl; scalars = rw s refl; neat = re
 
 -- Forms
 abbrev sign : Bool → Bool → List ℕ → Piece
-sign l r t = record { kind = kinds.Op; text = t; before = l; behind = r }
+sign l r t = record { kind = kinds.Op; text = t; before = l; following = r }
 
 -- xs `+` ys
 pub added : (xs ys : List Piece) → Expression xs → Expression ys → Expression (xs ++ sign false false (codes "+") ∷ ys)
 added xs ys x y =
-    let m : Written is_free_before is_free_behind (sign false false (codes "+") ∷ []) =
+    let m : Written is_free_before is_free_after (sign false false (codes "+") ∷ []) =
     (let t = by_words (codes "+") in record { pieces = rw t refl; scalars = refl; neat = refl; begins = refl; ends = refl }) in
-    both begins_expression ends_expression is_free_before ends_expression (λ p q a b. blank_fits p q (free_behind p a) b) xs
+    both begins_expression ends_expression is_free_before ends_expression (λ p q a b. blank_fits p q (free_after p a) b) xs
     (sign false false (codes "+") ∷ ys) x
-    (both is_free_before is_free_behind begins_expression ends_expression (λ p q a b. blank_fits p q a (free_before q b))
+    (both is_free_before is_free_after begins_expression ends_expression (λ p q a b. blank_fits p q a (free_before q b))
     (sign false false (codes "+") ∷ []) ys m y)
 
 -- Items: expressions, and what begins with a star
@@ -142,13 +142,13 @@ starred xs x =
 
 -- name `=` xs
 pub keyword : (t : List ℕ) (xs : List Piece) → is_token kinds.Name t ≡ true → all_scalars t ≡ true → Expression xs
-    → Item (record { kind = kinds.Name; text = t; before = false; behind = false } ∷ sign true true (codes "=") ∷ xs)
+    → Item (record { kind = kinds.Name; text = t; before = false; following = false } ∷ sign true true (codes "=") ∷ xs)
 keyword t xs e s x =
-    let n : Expression (record { kind = kinds.Name; text = t; before = false; behind = false } ∷ []) =
-    one_piece (record { kind = kinds.Name; text = t; before = false; behind = false }) e refl refl refl s in
+    let n : Expression (record { kind = kinds.Name; text = t; before = false; following = false } ∷ []) =
+    one_piece (record { kind = kinds.Name; text = t; before = false; following = false }) e refl refl refl s in
     let m : Written (is_sign trailing) (is_sign leading) (sign true true (codes "=") ∷ []) =
     (let o = by_words (codes "=") in record { pieces = rw o refl; scalars = refl; neat = refl; begins = refl; ends = refl }) in
-    item (record { kind = kinds.Name; text = t; before = false; behind = false } ∷ sign true true (codes "=") ∷ xs)
+    item (record { kind = kinds.Name; text = t; before = false; following = false } ∷ sign true true (codes "=") ∷ xs)
     (both begins_expression ends_expression (is_sign trailing) ends_expression trailing_fits
-    (record { kind = kinds.Name; text = t; before = false; behind = false } ∷ []) (sign true true (codes "=") ∷ xs) n
+    (record { kind = kinds.Name; text = t; before = false; following = false } ∷ []) (sign true true (codes "=") ∷ xs) n
     (both (is_sign trailing) (is_sign leading) begins_expression ends_expression leading_fits (sign true true (codes "=") ∷ []) xs m x))

@@ -141,8 +141,8 @@ closings_trailing : list_all (λ x. list_all (no_longer x) (codes "." ∷ traili
 unfolding operators
 closings_trailing = refl
 
-pub behind_leading : (p q : Piece) → is_sign leading p ≡ true → begins_expression q ≡ true → stay_apart p q ≡ true
-behind_leading p q a b =
+pub after_leading : (p q : Piece) → is_sign leading p ≡ true → begins_expression q ≡ true → stay_apart p q ≡ true
+after_leading p q a b =
     let x = and_parts (is_operator_kind p.kind) (is_among leading p.text) a in
     let y0 = and_parts (is_token q.kind q.text) ((not (is_operator_kind q.kind) || is_among openings q.text) && not q.before) b in
     let y : (is_token q.kind q.text ≡ true) × ((not (is_operator_kind q.kind) || is_among openings q.text) ≡ true) =
@@ -159,9 +159,9 @@ behind_leading p q a b =
 -- A sign after an expression
 pub before_trailing : (p q : Piece) → ends_expression p ≡ true → is_sign trailing q ≡ true → stay_apart p q ≡ true
 before_trailing p q a b =
-    let x0 = and_parts (is_token p.kind p.text) ((not (is_operator_kind p.kind) || is_among closings p.text) && not p.behind) a in
+    let x0 = and_parts (is_token p.kind p.text) ((not (is_operator_kind p.kind) || is_among closings p.text) && not p.following) a in
     let x : (is_token p.kind p.text ≡ true) × ((not (is_operator_kind p.kind) || is_among closings p.text) ≡ true) =
-    (x0.0, (and_parts (not (is_operator_kind p.kind) || is_among closings p.text) (not p.behind) x0.1).0) in
+    (x0.0, (and_parts (not (is_operator_kind p.kind) || is_among closings p.text) (not p.following) x0.1).0) in
     let y = and_parts (is_operator_kind q.kind) (is_among trailing q.text) b in
     let d : bytes_eq (take 1 q.text) (codes ".") ≡ false =
     not-true (bytes_eq (take 1 q.text) (codes ".")) (one_of (λ t. not (bytes_eq (take 1 t) (codes "."))) q.text trailing refl y.1) in

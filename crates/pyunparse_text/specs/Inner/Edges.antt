@@ -41,11 +41,11 @@ closings = codes ")" ∷ codes "]" ∷ codes "}" ∷ codes "..." ∷ []
 
 -- a name, a number, a string, a closing bracket or an ellipsis, not close to what stands after it
 abbrev pub ends_expression : Piece → Bool
-ends_expression p = is_token p.kind p.text && ((not (is_operator_kind p.kind) || is_among closings p.text) && not p.behind)
+ends_expression p = is_token p.kind p.text && ((not (is_operator_kind p.kind) || is_among closings p.text) && not p.following)
 
 -- not close to what comes after, or before
-abbrev pub is_free_behind : Piece → Bool
-is_free_behind p = not p.behind
+abbrev pub is_free_after : Piece → Bool
+is_free_after p = not p.following
 
 abbrev pub is_free_before : Piece → Bool
 is_free_before p = not p.before

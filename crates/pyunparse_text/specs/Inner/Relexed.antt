@@ -25,13 +25,13 @@ abbrev pub feed : Lexeme
 feed = record { «class» = LineEnd; text = 10 ∷ [] }
 
 -- the lexemes after a piece of its line: a blank's where one stands, and each piece's own
-abbrev pub lexemes_behind : Piece → List Piece → List Lexeme
-lexemes_behind p [] = []
-lexemes_behind p (q ∷ qs) = (if touches p q then [] else blanks (32 ∷ []) ∷ []) ++ (lexeme_of q ∷ lexemes_behind q qs)
+abbrev pub lexemes_after : Piece → List Piece → List Lexeme
+lexemes_after p [] = []
+lexemes_after p (q ∷ qs) = (if touches p q then [] else blanks (32 ∷ []) ∷ []) ++ (lexeme_of q ∷ lexemes_after q qs)
 
 abbrev pub lexemes_of : List Piece → List Lexeme
 lexemes_of [] = []
-lexemes_of (p ∷ ps) = lexeme_of p ∷ lexemes_behind p ps
+lexemes_of (p ∷ ps) = lexeme_of p ∷ lexemes_after p ps
 
 -- the blanks before a line of a level
 abbrev pub indent_lexemes : ℕ → List Lexeme

@@ -57,7 +57,7 @@ loop-left-preserved-then-len-ge-ENOUGH g c =
     let told = c.in_ok-entry.ensures.steps.reads.told in
     let room = i.room in
     record {
-      came = rw (c.clear.ensures.bytes, c.left_behind-left.ensures) (came_written came wrote);
+      came = rw (c.clear.ensures.bytes, c.left_after-left.ensures) (came_written came wrote);
       room = omega arith;
       counted = c.in_ok-write_all-in-Entry.ensures.unfailed ∙ i.counted;
     }
@@ -75,7 +75,7 @@ loop-left-preserved g c =
     let told = c.in_ok-entry.ensures.steps.reads.told in
     let room = i.room in
     record {
-      came = rw c.left_behind-left.ensures came;
+      came = rw c.left_after-left.ensures came;
       room = omega arith;
       counted = i.counted;
     }
@@ -105,5 +105,5 @@ returns-clause-holds g c =
     goes_here c.loop-left.invariant.came (λ p more broken s. stopped_held none_left
     c.in_ok-push_cursor.ensures.ok s)
 
-pub left_behind-left-requires : goal.left_behind-left-requires
-left_behind-left-requires g c = c.is_reached.ensures.open c.loop-left-test.true
+pub left_after-left-requires : goal.left_after-left-requires
+left_after-left-requires g c = c.is_reached.ensures.open c.loop-left-test.true

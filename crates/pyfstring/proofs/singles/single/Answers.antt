@@ -4,7 +4,7 @@ use Rattle.std.specs.String.{string_bytes}
 use Rattle.std.proofs.lemmas.Str.{chars-nil, chars-append, IsUtf8-string_bytes}
 use Rattle.pyfstring.specs.Singles.{single}
 use Rattle.pyfstring.specs.Cutting.{EndsWith, before}
-use Rattle.pyfstring.specs.Inner.Passing.{behind_brace}
+use Rattle.pyfstring.specs.Inner.Passing.{after_brace}
 use Rattle.pyfstring.proofs.Scanning.{text_shorter}
 use Rattle.pyfstring.proofs.SingleSteps.{IsUnit, unit_single, no_unit}
 use Rattle.pyfstring.proofs.singles.single.Goals as goal
@@ -13,10 +13,10 @@ pub until-requires : goal.until-requires
 until-requires c =
     let cs = c.loop-left.left in
     let u : IsUnit c.args.is_raw cs = unit_single c.args.is_raw cs (sym c.pass_unit.ensures.found ∙ c.if-not-pass_unit.false) in
-    let unit = c.pass_brace.ensures ∙ ap behind_brace c.again-unit.ensures in
+    let unit = c.pass_brace.ensures ∙ ap after_brace c.again-unit.ensures in
     let P : List ℕ → List ℕ → Type 0 = λ x y. EndsWith x y in
     subst (λ (x : List ℕ). P x c.pass_unit.new.self) (sym unit)
-    (subst (λ (y : List ℕ). P (behind_brace cs) y) (sym c.pass_unit.ensures.rest) u.ends)
+    (subst (λ (y : List ℕ). P (after_brace cs) y) (sym c.pass_unit.ensures.rest) u.ends)
 
 pub loop-left-init : goal.loop-left-init
 loop-left-init c =
@@ -33,14 +33,14 @@ loop-left-preserved c =
     let cs = c.loop-left.left in
     let out = string_bytes c.loop-left.out in
     let u : IsUnit raw cs = unit_single raw cs (sym c.pass_unit.ensures.found ∙ c.if-not-pass_unit.false) in
-    let unit = c.pass_brace.ensures ∙ ap behind_brace c.again-unit.ensures in
+    let unit = c.pass_brace.ensures ∙ ap after_brace c.again-unit.ensures in
     let rest = c.pass_unit.new.self in
-    let text : chars c.until.result.now ≡ before (behind_brace cs) rest = c.until.ensures ∙ ap (λ (x : List ℕ). before x rest) unit in
-    let same : single raw cs ≡ before (behind_brace cs) rest ++ single raw rest =
-    subst (λ (y : List ℕ). single raw cs ≡ before (behind_brace cs) y ++ single raw y) (sym c.pass_unit.ensures.rest) u.same in
+    let text : chars c.until.result.now ≡ before (after_brace cs) rest = c.until.ensures ∙ ap (λ (x : List ℕ). before x rest) unit in
+    let same : single raw cs ≡ before (after_brace cs) rest ++ single raw rest =
+    subst (λ (y : List ℕ). single raw cs ≡ before (after_brace cs) y ++ single raw y) (sym c.pass_unit.ensures.rest) u.same in
     c.loop-left.invariant
     ∙ ap (λ (x : List ℕ). chars out ++ x) same
-    ∙ sym (append_assoc (chars out) (before (behind_brace cs) rest) (single raw rest))
+    ∙ sym (append_assoc (chars out) (before (after_brace cs) rest) (single raw rest))
     ∙ ap (λ (x : List ℕ). (chars out ++ x) ++ single raw rest) (sym text)
     ∙ ap (λ (x : List ℕ). x ++ single raw rest) (sym (chars-append out c.until.result.now (IsUtf8-string_bytes c.loop-left.out)))
     ∙ ap (λ (x : List ℕ). chars x ++ single raw rest) (sym c.in_ok-push_str.ensures.bytes)

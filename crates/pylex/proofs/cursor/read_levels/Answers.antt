@@ -2,7 +2,7 @@ use Rattle.std.proofs.Common.{◌≡◌, ◌∷◌, [], ◌++◌, ◌<◌, ◌�
 use denote.Ref.{Bor}
 use Rattle.std.proofs.Common.{◌^◌}
 use Rattle.std.proofs.lemmas.List.Elements.{All-push}
-use Rattle.pylex.proofs.Levels.LevelLemmas.{HasRead, cannot_follow, can_follow_is, text_left, next_level, joined_behind, one_more, has_read}
+use Rattle.pylex.proofs.Levels.LevelLemmas.{HasRead, cannot_follow, can_follow_is, text_left, next_level, joined_after, one_more, has_read}
 use Rattle.pylex.proofs.Levels.LevelLemmas.{first_kept, ascending_kept, are_levels, at_end}
 use Rattle.pylex.proofs.cursor.read_levels.Goals as goal
 
@@ -43,7 +43,7 @@ loop-rest-preserved c =
             next.rest,
             one_more sofar ns next.rest next.level next.whole ∙ ap (λ n. sofar ++ n ∷ [] ++ next.rest) (sym level)
                 ∙ ap (λ l. l ++ next.rest) (sym pushed),
-            joined_behind c.in_ok-level.back next.rest read.1,
+            joined_after c.in_ok-level.back next.rest read.1,
           );
     }
 

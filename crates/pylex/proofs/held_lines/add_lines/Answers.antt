@@ -7,8 +7,8 @@ use Rattle.pysource.specs.Taking.{fails}
 use Rattle.pysource.proofs.Callers.Taken.{was_reading}
 use Rattle.pylex.proofs.LineByLine.Adding.{adds_none, adds_line, adds_no_line}
 use Rattle.pylex.proofs.LineByLine.HeldLinesLemmas.{adds_of, no_line, line_some}
-use Rattle.pylex.specs.Held.{LinesBehind}
-use Rattle.pylex.proofs.LineByLine.JoinedOn.{behind_line, joins_no_line, joins_ended}
+use Rattle.pylex.specs.Held.{LinesAfter}
+use Rattle.pylex.proofs.LineByLine.JoinedOn.{after_line, joins_no_line, joins_ended}
 use Rattle.pylex.proofs.held_lines.add_lines.Goals as goal
 
 pub loop-literal-init : goal.loop-literal-init
@@ -50,9 +50,9 @@ loop-literal-preserved g c =
           let a = ap fails old in
           let b = ap fails is in
           omega arith;
-      joins = λ at start l. subst (λ n. LinesBehind c.args.literal at n start c.next_line.new.self (string_bytes c.next_line.new.chunk))
+      joins = λ at start l. subst (λ n. LinesAfter c.args.literal at n start c.next_line.new.self (string_bytes c.next_line.new.chunk))
           size
-          (behind_line _ _ c.args.literal at c.loop-literal.from start c.loop-literal.lines c.next_line.new.self _ _
+          (after_line _ _ c.args.literal at c.loop-literal.from start c.loop-literal.lines c.next_line.new.self _ _
           (c.loop-literal.invariant.joins at start l) (rw (← c.deref.ensures, ← c.range_from.ensures.value)
           (c.loop-literal-test.ensures.longer refl)) m c.in-Ok.ensures.within);
       from = subst (IsCharBoundary (string_bytes c.next_line.new.chunk)) size (IsCharBoundary-at_seam _ (string_bytes c.loop-literal.text)

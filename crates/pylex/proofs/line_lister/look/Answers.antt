@@ -5,7 +5,7 @@ use Rattle.std.proofs.lemmas.Str.{chars-nil}
 use Rattle.pylex.specs.LineState.{StopAhead}
 use Rattle.pylex.proofs.Listers.Finding.{stays_there}
 use Rattle.pylex.proofs.LineByLine.Lined.{stop_empty}
-use Rattle.pylex.proofs.LineByLine.Searching.{boundary_held, stands_held, ascending_held, within_held, stop_held, drop_behind}
+use Rattle.pylex.proofs.LineByLine.Searching.{boundary_held, stands_held, ascending_held, within_held, stop_held, drop_after}
 use Rattle.pylex.proofs.line_lister.look.Goals as goal
 
 pub returns-then-chunk-len-clause-looks : goal.returns-then-chunk-len-clause-looks
@@ -44,9 +44,9 @@ peek-peeked-requires-clause-stop c = rw c.rest.ensures (stop_held c.args.machine
 pub returns-clause-looks : goal.returns-clause-looks
 returns-clause-looks c =
     let text = string_bytes c.args.chunk.now.text in
-    let behind = rw c.rest.ensures at c.peek-peeked.ensures.behind in
+    let following = rw c.rest.ensures at c.peek-peeked.ensures.following in
     let left = c.peek-peeked.result.2.now in
-    let is = drop_behind text c.args.chunk.now.at left behind in
+    let is = drop_after text c.args.chunk.now.at left following in
     let size : c.len-2.result ≡ length text = omega (arith, c.len-2.ensures) in
     let at = ap (λ n. drop (n - length left) text) size ∙ is in
     record {

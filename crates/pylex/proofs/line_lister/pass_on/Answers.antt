@@ -8,7 +8,7 @@ use Rattle.pylex.specs.declared.line_state.LineState.{LineState}
 use Rattle.pylex.specs.declared.line_lister.Found.{Found}
 use Rattle.pylex.specs.Inner.MachineSteps.{StepsOn}
 use Rattle.pylex.specs.Inner.LineSteps.{Looks}
-use Rattle.pylex.proofs.LineByLine.Searching.{not_read, searches_none, boundary_held, stands_held, drop_behind, meets_here}
+use Rattle.pylex.proofs.LineByLine.Searching.{not_read, searches_none, boundary_held, stands_held, drop_after, meets_here}
 use Rattle.pylex.proofs.LineByLine.Steppings.{entry_ahead, place_held, steps_entry, streaming_entry}
 use Rattle.pylex.proofs.line_lister.pass_on.Goals as goal
 
@@ -24,7 +24,7 @@ looks_so : (p r : Machine) (d : HeldLines) (e : Entry) (left : List ℕ) (size :
 looks_so p r d e left size whole s =
     let text = string_bytes d.text in
     let at : drop (size - length left) text ≡ left = ap (λ n. drop (n - length left) text) whole
-    ∙ drop_behind text d.at left s.reaches.behind in
+    ∙ drop_after text d.at left s.reaches.following in
     record {
       at = omega (arith, whole);
       left = rw at s.reaches.stands.utf8;
@@ -56,7 +56,7 @@ returns-clause-some c =
     let found = found_by e s.now size (length left) in
     let looks = looks_so p r d e left size whole s in
     let at : drop (size - length left) (string_bytes d.text) ≡ left = ap (λ n. drop (n - length left) (string_bytes d.text)) whole
-    ∙ drop_behind (string_bytes d.text) d.at left s.reaches.behind in
+    ∙ drop_after (string_bytes d.text) d.at left s.reaches.following in
     let peeked = meets_here p d found looks (λ i. absurd (no_stop e i)) in
     let went = rw (← at) at (s.went None) in
     record {

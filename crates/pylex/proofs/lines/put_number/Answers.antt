@@ -1,7 +1,7 @@
 use Rattle.std.proofs.Common.{◌≡◌, ◌∷◌, ◌+◌, ◌++◌, ℕ, List, length, drop, ap, sym, ◌∙◌, arith, rules}
 use Rattle.std.specs.Prelude.{◌/◌, ◌%◌}
 use Rattle.std.proofs.lemmas.Fmt.{length-decimal-le, decimal_digit}
-use Rattle.pylex.proofs.Texts.LinesLemmas.{two_digits, drop_behind}
+use Rattle.pylex.proofs.Texts.LinesLemmas.{two_digits, drop_after}
 use Rattle.pylex.proofs.lines.put_number.Goals as goal
 
 pub write_digits-requires : goal.write_digits-requires
@@ -22,7 +22,7 @@ returns-then-number-lt10-clause-start c = omega (
 pub returns-then-number-lt10-clause-written : goal.returns-then-number-lt10-clause-written
 returns-then-number-lt10-clause-written c =
     let whole : c.args.number % 10 ≡ c.args.number = omega (arith, c.if-number-lt10.true) in
-    drop_behind c.put_sign-ones.result c.put_sign-tens.result _ _ c.put_sign-tens.new.field c.put_sign-tens.ensures.start
+    drop_after c.put_sign-ones.result c.put_sign-tens.result _ _ c.put_sign-tens.new.field c.put_sign-tens.ensures.start
     c.put_sign-tens.ensures.written
     ∙ c.put_sign-ones.ensures.written
     ∙ ap (λ n. (48 + n) ∷ drop c.args.end c.args.field.now) whole

@@ -1,9 +1,9 @@
 use Rattle.std.proofs.Common.{refl}
-use Rattle.pylex.proofs.Texts.LastLines.{line_behind, line_alone, line_begun}
+use Rattle.pylex.proofs.Texts.LastLines.{line_following, line_alone, line_begun}
 use Rattle.pylex.proofs.lister.last_line.Goals as goal
 
 pub returns-in-Some-clause-line : goal.returns-in-Some-clause-line
-returns-in-Some-clause-line c = line_behind c.args.text.now c.range_from.result.now c.in-Some.at c.utf8.text c.range_from.utf8
+returns-in-Some-clause-line c = line_following c.args.text.now c.range_from.result.now c.in-Some.at c.utf8.text c.range_from.utf8
     (rw c.in-Some.is at c.rfind.ensures.cases) c.range_from.ensures.value
 
 pub returns-in-None-clause-line : goal.returns-in-None-clause-line

@@ -1,7 +1,7 @@
 use Rattle.std.proofs.Common.{◌+◌, [], length, refl}
 use Rattle.std.specs.Str.{chars}
 use Rattle.pylex.proofs.Listers.Finding.{stays_there, comes_on, finds_on, fault_found, entry_found, nothing_found, no_significant_due}
-use Rattle.pylex.proofs.Listers.Finding.{some_bytes, stands_after, shorter_after, room_after, behind_cut, behind_on}
+use Rattle.pylex.proofs.Listers.Finding.{some_bytes, stands_after, shorter_after, room_after, after_cut, after_on}
 use Rattle.pylex.specs.declared.peeked.Peeked.TheVariants as peeked
 use Rattle.pylex.proofs.MachineLaws.Told.{tells}
 use Rattle.pylex.proofs.peeked.find.Goals as goal
@@ -52,7 +52,7 @@ loop-peeked-preserved c =
       λ n h. room_after c.line_start.new.now c.after-ahead.result c.loop-peeked.rest.now c.in-Some-cut.front.now c.in-Some-cut.back.now
           c.in-Some-cut.class c.in-Some-cut.ensures.some c.after-ahead.ensures.room n
           (c.in_default.ensures.room (length c.loop-peeked.rest.now + n) (c.loop-peeked.invariant.3 n h)),
-      behind_cut c.args.text.now c.loop-peeked.rest.now c.in-Some-cut.front.now c.in-Some-cut.back.now c.in-Some-cut.class
+      after_cut c.args.text.now c.loop-peeked.rest.now c.in-Some-cut.front.now c.in-Some-cut.back.now c.in-Some-cut.class
           c.in_default.ensures.stands.utf8 c.in-Some-cut.ensures.some c.loop-peeked.invariant.4,
     )
 
@@ -75,17 +75,17 @@ returns-in_default-cut-clause-finds c = (
 pub returns-in_default-cut-clause-room : goal.returns-in_default-cut-clause-room
 returns-in_default-cut-clause-room c n h = c.in_default.ensures.room (length c.loop-peeked.rest.now + n) (c.loop-peeked.invariant.3 n h)
 
-pub returns-in-Some-clause-behind : goal.returns-in-Some-clause-behind
-returns-in-Some-clause-behind c = c.loop-peeked.invariant.4
+pub returns-in-Some-clause-following : goal.returns-in-Some-clause-following
+returns-in-Some-clause-following c = c.loop-peeked.invariant.4
 
-pub returns-in-Fault-clause-behind : goal.returns-in-Fault-clause-behind
-returns-in-Fault-clause-behind c = c.loop-peeked.invariant.4
+pub returns-in-Fault-clause-following : goal.returns-in-Fault-clause-following
+returns-in-Fault-clause-following c = c.loop-peeked.invariant.4
 
-pub returns-in_default-cut-clause-behind : goal.returns-in_default-cut-clause-behind
-returns-in_default-cut-clause-behind c = c.loop-peeked.invariant.4
+pub returns-in_default-cut-clause-following : goal.returns-in_default-cut-clause-following
+returns-in_default-cut-clause-following c = c.loop-peeked.invariant.4
 
-pub returns-in-Entry-clause-behind : goal.returns-in-Entry-clause-behind
-returns-in-Entry-clause-behind c = behind_cut c.args.text.now c.loop-peeked.rest.now c.in-Some-cut.front.now c.in-Some-cut.back.now
+pub returns-in-Entry-clause-following : goal.returns-in-Entry-clause-following
+returns-in-Entry-clause-following c = after_cut c.args.text.now c.loop-peeked.rest.now c.in-Some-cut.front.now c.in-Some-cut.back.now
     c.in-Some-cut.class c.in_default.ensures.stands.utf8 c.in-Some-cut.ensures.some c.loop-peeked.invariant.4
 
 pub returns-in-Some-clause-room : goal.returns-in-Some-clause-room
@@ -108,6 +108,6 @@ pub returns-in-Some-next_entry-clause-room : goal.returns-in-Some-next_entry-cla
 returns-in-Some-next_entry-clause-room c n h =
     c.in-Some-next_entry.ensures.room n (c.in_default.ensures.room (length c.loop-peeked.rest.now + n) (c.loop-peeked.invariant.3 n h))
 
-pub returns-in-Some-next_entry-clause-behind : goal.returns-in-Some-next_entry-clause-behind
-returns-in-Some-next_entry-clause-behind c = behind_on c.args.text.now c.loop-peeked.rest.now c.in-Some-next_entry.left.now
-    c.loop-peeked.invariant.4 c.in-Some-next_entry.ensures.behind
+pub returns-in-Some-next_entry-clause-following : goal.returns-in-Some-next_entry-clause-following
+returns-in-Some-next_entry-clause-following c = after_on c.args.text.now c.loop-peeked.rest.now c.in-Some-next_entry.left.now
+    c.loop-peeked.invariant.4 c.in-Some-next_entry.ensures.following

@@ -3,7 +3,7 @@ use Rattle.std.specs.Str.{chars}
 use Rattle.pylex_lexeme.specs.declared.lexeme.Class.{Class}
 use Rattle.pylex_lexeme.specs.Cuts.{Cuts, begins_significant}
 use Rattle.pylex_lexeme.specs.Lexemes.{is_significant_class}
-use Rattle.pylex.proofs.Listers.Finding.{stays_there, settles_same, entry_found, some_bytes, stands_after, room_after, behind_cut}
+use Rattle.pylex.proofs.Listers.Finding.{stays_there, settles_same, entry_found, some_bytes, stands_after, room_after, after_cut}
 use Rattle.pylex_listing.proofs.Callers.{significant_is}
 use Rattle.pylex.proofs.MachineLaws.Told.{tells}
 use Rattle.pylex.proofs.peeked.margin_entry.Goals as goal
@@ -47,5 +47,5 @@ returns c =
           c.after-ahead.ensures.after;
       stands = stands_after p q text front back k cuts c.requires.stands c.after-ahead.ensures.room;
       room = λ n h. room_after p q text front back k cuts c.after-ahead.ensures.room n h;
-      behind = behind_cut text text front back k c.requires.stands.utf8 cuts ([], refl);
+      following = after_cut text text front back k c.requires.stands.utf8 cuts ([], refl);
     }

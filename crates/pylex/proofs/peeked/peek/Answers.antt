@@ -9,5 +9,5 @@ returns-then-tail-gt0-clause-finds c = (
   c.requires.stop c.if-tail-gt0.true,
 )
 
-pub returns-then-tail-gt0-clause-behind : goal.returns-then-tail-gt0-clause-behind
-returns-then-tail-gt0-clause-behind c = ([], refl)
+pub returns-then-tail-gt0-clause-following : goal.returns-then-tail-gt0-clause-following
+returns-then-tail-gt0-clause-following c = ([], refl)

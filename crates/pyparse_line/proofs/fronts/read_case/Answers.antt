@@ -2,6 +2,6 @@ use Rattle.pyparse_line.proofs.Recorders.Fronts.{case_line_placed}
 use Rattle.pyparse_line.proofs.fronts.read_case.Goals as goal
 
 pub returns-clause-placed : goal.returns-clause-placed
-returns-clause-placed g c = λ form w a s. case_line_placed c.recorded-behind.result (c.in_ok-header.ensures.placed 0 form a s)
-    c.recorded-behind.ensures c.in_ok-suite.ensures.placed
-    c.headed_form.ensures.form c.headed_form.ensures.next c.headed_form.ensures.before c.headed_form.ensures.behind w
+returns-clause-placed g c = λ form w a s. case_line_placed c.recorded-following.result (c.in_ok-header.ensures.placed 0 form a s)
+    c.recorded-following.ensures c.in_ok-suite.ensures.placed
+    c.headed_form.ensures.form c.headed_form.ensures.next c.headed_form.ensures.before c.headed_form.ensures.following w

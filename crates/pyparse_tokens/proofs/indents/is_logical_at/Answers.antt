@@ -9,7 +9,7 @@ pub returns-clause-logical : goal.returns-clause-logical
 returns-clause-logical c =
     let line = ap chars c.range_from.ensures.value ∙ line_of c.text.result.now c.args.source.now.text c.args.offset c.text.utf8
     c.text.ensures.value in
-    c.begins_significant.ensures ∙ ap begins_significant (c.behind_blanks.ensures.rest
+    c.begins_significant.ensures ∙ ap begins_significant (c.after_blanks.ensures.rest
     ∙ ap (λ (t : List ℕ). drop (length (blanks_of t)) t) line)
 
 pub returns-clause-line : goal.returns-clause-line

@@ -21,7 +21,7 @@ runs-preserved c =
     record {
       front = starts_with_trans _ _ _ c.push_repr_point.ensures.kept (starts_with_trans _ _ _ c.push_plain_points.ensures.kept
           c.runs.invariant.front);
-      output = point_pushed q c.in-Some.point.now tail c.in-Some.behind.now _ _ _ c.in-Some.ensures.cases.0 before
+      output = point_pushed q c.in-Some.point.now tail c.in-Some.following.now _ _ _ c.in-Some.ensures.cases.0 before
           c.in_ok-push_repr_point-in-Some.ensures.ok;
     }
 

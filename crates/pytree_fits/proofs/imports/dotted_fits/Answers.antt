@@ -14,15 +14,15 @@ is_name-requires-2-text-text c κs = c.loop-part.invariant.0
 
 pub returns-then-not-branch : goal.returns-then-not-branch
 returns-then-not-branch c =
-    let parts = at_dot c.loop-part.rest.now (Some (c.in-Some.part, c.in-Some.behind)) c.loop-part.invariant.0 c.in-Some.ensures.cases in
-    fails (is_name (chars c.in-Some.part.now)) (dotted is_name (chars c.in-Some.behind.now)) c.in_ok-is_name.ensures c.if-not-branch.true
+    let parts = at_dot c.loop-part.rest.now (Some (c.in-Some.part, c.in-Some.following)) c.loop-part.invariant.0 c.in-Some.ensures.cases in
+    fails (is_name (chars c.in-Some.part.now)) (dotted is_name (chars c.in-Some.following.now)) c.in_ok-is_name.ensures c.if-not-branch.true
     (c.loop-part.invariant.1 ∙ parts.1)
 
 pub loop-part-preserved : goal.loop-part-preserved
 loop-part-preserved c =
-    let parts = at_dot c.loop-part.rest.now (Some (c.in-Some.part, c.in-Some.behind)) c.loop-part.invariant.0 c.in-Some.ensures.cases in (
+    let parts = at_dot c.loop-part.rest.now (Some (c.in-Some.part, c.in-Some.following)) c.loop-part.invariant.0 c.in-Some.ensures.cases in (
       parts.0,
-      passes (is_name (chars c.in-Some.part.now)) (dotted is_name (chars c.in-Some.behind.now)) c.in_ok-is_name.ensures
+      passes (is_name (chars c.in-Some.part.now)) (dotted is_name (chars c.in-Some.following.now)) c.in_ok-is_name.ensures
           c.if-not-branch.false (c.loop-part.invariant.1 ∙ parts.1),
     )
 

@@ -15,7 +15,7 @@ use Rattle.pylex_lexeme.specs.declared.kinds.Exact.TheVariants.{Colon}
 use Rattle.pyunparse_text.specs.Pieces.{piece}
 use Rattle.pyunparse_text.specs.Written.{trailing}
 use Rattle.pyunparse_text.specs.Folds.{puts}
-use Rattle.pyunparse_text.specs.Writing.{behind_sited}
+use Rattle.pyunparse_text.specs.Writing.{after_sited}
 use Rattle.pytree_node.proofs.Callers.StmtShapes.{async_for_tree, async_function_def_tree, async_with_tree, case_tree, class_def_tree}
 use Rattle.pytree_node.proofs.Callers.StmtShapes.{for_tree, function_def_tree, handler_tree, if_tree, match_tree, try_star_tree, try_tree}
 use Rattle.pytree_node.proofs.Callers.StmtShapes.{while_tree, with_tree, class_def_shape, function_def_shape, try_shape}
@@ -392,7 +392,7 @@ write_clause-returns t c =
     (λ _ b. subst (Wrote c.args.out.now _) (some_clause c.args.out.now.level h c.args.body.now _ c.is_empty.ensures c.if-is_empty.false)
     (header_block c.args.out.now _ _ _ h (λ n. lines_of piece (suc n) (stmts (map stmt_of c.args.body.now)))
     c.in_ok-begin_line.ensures (c.in_ok-write_word_header.ensures
-    ∙ ap (λ z. puts behind_sited c.begin_line.new.self (z ++ trailing piece Colon ∷ [])) (sym e)) b)) c.write_block.ensures
+    ∙ ap (λ z. puts after_sited c.begin_line.new.self (z ++ trailing piece Colon ∷ [])) (sym e)) b)) c.write_block.ensures
 
 pub write_clause-returns-then-is_empty : goal.write_clause-returns-then-is_empty
 write_clause-returns-then-is_empty t c = λ h e. subst (Wrote c.args.out.now c.args.out.now)

@@ -13,5 +13,5 @@ returns g c =
     ∙ ap (λ z. z ++ float_source c.args.float) c.new-text.ensures.bytes in
     let numeral = float_numeral c.args.float c.in_ok-push_source.ensures.double in
     IfOk-equal _ _ _ _ c.put.ensures
-    (ap (λ t. g.W.Writer.after c.args.out.now (anywhere (record { kind = kinds.Number; text = t; before = false; behind = false })))
+    (ap (λ t. g.W.Writer.after c.args.out.now (anywhere (record { kind = kinds.Number; text = t; before = false; following = false })))
     (ascii_bytes _ _ numeral.ascii t))

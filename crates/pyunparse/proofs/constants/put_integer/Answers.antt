@@ -12,7 +12,7 @@ returns-in-Some g c =
     let t : c.format.result.now ≡ decimal_text c.args.number.now = c.format.ensures.text ∙ decimal_text_is c.in-Some.small (omega arith)
     ∙ ap decimal_text c.in-Some.ensures in
     IfOk-equal _ _ _ _ c.put.ensures
-    (ap (λ t. g.W.Writer.after c.args.out.now (anywhere (record { kind = kinds.Number; text = t; before = false; behind = false })))
+    (ap (λ t. g.W.Writer.after c.args.out.now (anywhere (record { kind = kinds.Number; text = t; before = false; following = false })))
     (ascii_bytes _ _ (decimal_text_ascii c.args.number.now) t))
 
 pub returns : goal.returns
@@ -20,5 +20,5 @@ returns g c =
     let t : c.as_str.result.now ≡ decimal_text c.args.number.now = c.as_str.ensures.value ∙ c.in_ok-push_decimal.ensures
     ∙ ap (λ z. z ++ decimal_text c.args.number.now) c.new-text.ensures.bytes in
     IfOk-equal _ _ _ _ c.put-2.ensures
-    (ap (λ t. g.W.Writer.after c.args.out.now (anywhere (record { kind = kinds.Number; text = t; before = false; behind = false })))
+    (ap (λ t. g.W.Writer.after c.args.out.now (anywhere (record { kind = kinds.Number; text = t; before = false; following = false })))
     (ascii_bytes _ _ (decimal_text_ascii c.args.number.now) t))

@@ -7,7 +7,7 @@ use Rattle.pytree_node.specs.TreeOf.{arguments_of, boxed_of, type_param_of}
 use Rattle.pygrammar.specs.Lines.{def_header, function_head}
 use Rattle.pygrammar.specs.declared.levels.Level.TheVariants.{Expression}
 use Rattle.pyunparse_text.specs.Pieces.{piece}
-use Rattle.pyunparse_text.specs.Statements.{async, behind, header_tokens, type_params}
+use Rattle.pyunparse_text.specs.Statements.{async, following, header_tokens, type_params}
 use Rattle.pyunparse_text.specs.Written.{enclosed, free, listed, parameters, tight, trailing, word}
 use Rattle.pyunparse.proofs.Sequences.FoldLemmas.{enclosed_on, six, two}
 use Rattle.pyunparse.proofs.headers.write_function_header.Goals as goal
@@ -20,10 +20,10 @@ returns g c =
     IfOk-equal _ _ _ _ c.put_colon.ensures
     (two g.W.Writer.after c.args.out.now (header_tokens piece (def_header (function_head c.args.is_async c.args.name.now ps a r)))
     (trailing piece Colon ∷ []) _
-    (c.in_ok-write_behind.ensures ∙ six g.W.Writer.after c.args.out.now (async piece c.args.is_async) (word piece Key.Def ∷ [])
+    (c.in_ok-write_after.ensures ∙ six g.W.Writer.after c.args.out.now (async piece c.args.is_async) (word piece Key.Def ∷ [])
     (free piece (in_form c.args.name.now) ∷ []) (type_params piece ps)
     (enclosed piece (tight piece LPar) RPar (listed piece (parameters piece a)))
-    (behind piece (free piece (Op RArrow)) Expression r) _ _ _ _ _
+    (following piece (free piece (Op RArrow)) Expression r) _ _ _ _ _
     c.in_ok-put_async.ensures c.in_ok-put_word.ensures c.in_ok-put_name.ensures c.in_ok-write_type_params.ensures
     (c.in_ok-put_sign-2.ensures ∙ enclosed_on g.W.Writer.after _ (tight piece LPar) RPar (listed piece (parameters piece a)) _ _
     c.in_ok-put_sign.ensures c.in_ok-write_parameters.ensures)))

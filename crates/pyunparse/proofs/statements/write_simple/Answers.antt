@@ -22,7 +22,7 @@ returns-in_ok-put_sign-in-AugAssign g c = IfOk-equal _ _ _ _ c.write_expr-in-Aug
     c.in_ok-write_expr-in-AugAssign.ensures c.in_ok-put_sign-in-AugAssign.ensures)
 
 pub returns-in_ok-write_expr-in-AnnAssign : goal.returns-in_ok-write_expr-in-AnnAssign
-returns-in_ok-write_expr-in-AnnAssign g c = IfOk-equal _ _ _ _ c.write_behind.ensures
+returns-in_ok-write_expr-in-AnnAssign g c = IfOk-equal _ _ _ _ c.write_after.ensures
     (annotation_on g.W.Writer.after c.args.out.now c.args.s.now c.in-AnnAssign.is c.deref-in-AnnAssign.ensures
     c.deref-in-AnnAssign-2.ensures
     c.in_ok-write_annotated-in-AnnAssign.ensures c.in_ok-put_sign-in-AnnAssign.ensures c.in_ok-write_expr-in-AnnAssign.ensures)

@@ -2,7 +2,7 @@ use Rattle.std.proofs.Common.{◌≡◌, ℕ, sym, subst, ◌∙◌, arith}
 use Rattle.pylex_listing.specs.declared.entries.Step.TheVariants as steps
 use Rattle.pylex_listing.specs.Listing.{in_characters}
 use Rattle.pylex.specs.Listers.{StandsIn}
-use Rattle.uses.proofs.ListingLemmas.{moved, behind_name, behind_other, names_left, no_entry, none_left}
+use Rattle.uses.proofs.ListingLemmas.{moved, following_name, after_other, names_left, no_entry, none_left}
 use Rattle.uses.proofs.listings.count_names.Goals as goal
 
 pub loop-lister-smaller-then-is_name : goal.loop-lister-smaller-then-is_name
@@ -18,7 +18,7 @@ loop-lister-preserved-then-is_name c =
     let k = c.loop-lister.lister.shown.given in
     let m = moved c.loop-lister.lister c.next.new.self c.in_ok-entry.field-0 (steps.Entry c.in-Entry.entry) s k c.in_ok-entry.ensures.steps
     c.in-Entry.is i.stands in
-    let left = behind_name s k c.in-Entry.entry m.0 (sym c.is_name.ensures ∙ c.if-is_name.true) in
+    let left = following_name s k c.in-Entry.entry m.0 (sym c.is_name.ensures ∙ c.if-is_name.true) in
     record {
       stands = subst (λ (n : ℕ). StandsIn c.next.new.self s n) (sym m.1.count) m.1;
       few = omega (arith, m.1.count, i.few);
@@ -39,7 +39,7 @@ loop-lister-preserved c =
     let k = c.loop-lister.lister.shown.given in
     let m = moved c.loop-lister.lister c.next.new.self c.in_ok-entry.field-0 (steps.Entry c.in-Entry.entry) s k c.in_ok-entry.ensures.steps
     c.in-Entry.is i.stands in
-    let left = behind_other s k c.in-Entry.entry m.0 (sym c.is_name.ensures ∙ c.if-is_name.false) in
+    let left = after_other s k c.in-Entry.entry m.0 (sym c.is_name.ensures ∙ c.if-is_name.false) in
     record {
       stands = subst (λ (n : ℕ). StandsIn c.next.new.self s n) (sym m.1.count) m.1;
       few = omega (arith, m.1.count, i.few);

@@ -15,7 +15,7 @@ returns-clause-bytes c =
     let size : n ≡ length gave = sym (ap length front ∙ length-take-le n bytes within) in
     let given : take n (gave ++ kept) ≡ gave = ap (λ k. take k (gave ++ kept)) size ∙ take-append_seam gave kept in
     let whole = length-append gave kept in
-    let behind = length-drop n c.args.buf.now in (
+    let following = length-drop n c.args.buf.now in (
       rw (given, front, c.split_at.ensures.back) (sym (take-append-drop n bytes)),
       λ none some.
           let all : length bytes ≤ n = omega (
@@ -24,7 +24,7 @@ returns-clause-bytes c =
             some,
             size,
             whole,
-            behind,
+            following,
             c.min-count.ensures,
             c.min.ensures,
             c.args.self.now.gives_some,

@@ -1,5 +1,5 @@
 use Rattle.std.proofs.Common.{◌≡◌, ℕ, List, Some, None, false, drop, refl, sym, ap, ◌∙◌}
-use Rattle.pyfstring.specs.Texts.{behind_text}
+use Rattle.pyfstring.specs.Texts.{after_text}
 use Rattle.pyfstring.specs.Cutting.{before, text_at}
 use Rattle.pyfstring.proofs.FieldSteps.{eaten_some, eaten_none}
 use Rattle.pyfstring.proofs.PieceSteps.{spec_absent, spec_given}
@@ -16,10 +16,10 @@ unfolding text_at
 returns c =
     let found = sym c.eat.ensures.found ∙ c.if-not-eat.false in
     let here = c.eat.ensures.rest ∙ eaten_some 58 c.args.self.now found in
-    let left : c.text.new.self ≡ behind_text c.args.manner.is_raw false (drop 1 c.args.self.now) = c.text.ensures.rest
-    ∙ ap (behind_text c.args.manner.is_raw false) here in
+    let left : c.text.new.self ≡ after_text c.args.manner.is_raw false (drop 1 c.args.self.now) = c.text.ensures.rest
+    ∙ ap (after_text c.args.manner.is_raw false) here in
     let cs = drop 1 c.args.self.now in
-    let r = behind_text c.args.manner.is_raw false cs in
+    let r = after_text c.args.manner.is_raw false cs in
     let t = c.text.ensures.text ∙ ap (λ (x : List ℕ). before x c.text.new.self) here ∙ ap (before cs) left in
     spec_given (text_at c.args.manner.is_raw false) c.args.self.now (before cs r) r found refl
     ∙ ap (λ (x : List ℕ). Some (Some (before cs r), x)) (sym left)

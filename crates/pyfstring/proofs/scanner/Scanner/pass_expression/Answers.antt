@@ -1,20 +1,20 @@
 use Rattle.std.proofs.Common.{◌≡◌, List, sym, ◌∙◌, ap}
 use Rattle.pyfstring.specs.declared.expressions.Bracket.{Bracket}
 use Rattle.pyfstring.specs.declared.expressions.Step.TheVariants.{Ends, Fails, Compares, Opens, Closes, Passes}
-use Rattle.pyfstring.specs.Expressions.{step, behind_expression}
+use Rattle.pyfstring.specs.Expressions.{step, following_expression}
 use Rattle.pyfstring.proofs.Faults.{told}
 use Rattle.pyfstring.proofs.Stepping.{literal_begins, scan_fails, scan_stops, step_shorter}
 use Rattle.pyfstring.proofs.scanner.Scanner.pass_expression.Goals as goal
 
 pub returns-in-Ends-clause-ok : goal.returns-in-Ends-clause-ok
-unfolding behind_expression
+unfolding following_expression
 returns-in-Ends-clause-ok c =
     let s : step c.loop-opened.opened.items c.loop-opened.self ≡ Ends = ap (λ (bs : List Bracket). step bs c.loop-opened.self)
     (sym c.as_slice.ensures.value) ∙ sym c.step.ensures ∙ c.in-Ends.is in
     c.loop-opened.invariant ∙ scan_stops c.loop-opened.opened.items c.loop-opened.self s
 
 pub returns-in-Fails-clause-malformed : goal.returns-in-Fails-clause-malformed
-unfolding behind_expression
+unfolding following_expression
 returns-in-Fails-clause-malformed c =
     let s : step c.loop-opened.opened.items c.loop-opened.self ≡ Fails = ap (λ (bs : List Bracket). step bs c.loop-opened.self)
     (sym c.as_slice.ensures.value) ∙ sym c.step.ensures ∙ c.in-Fails.is in
@@ -25,7 +25,7 @@ pass_literal-requires c =
     literal_begins c.as_slice.result.now c.loop-opened.self (sym c.step.ensures ∙ c.in-Literal.is)
 
 pub returns-in_err-pass_literal-in-Literal-clause-malformed : goal.returns-in_err-pass_literal-in-Literal-clause-malformed
-unfolding behind_expression
+unfolding following_expression
 returns-in_err-pass_literal-in-Literal-clause-malformed c = told c.from_residual.result (c.loop-opened.invariant
     ∙ c.in_err-pass_literal-in-Literal.ensures.malformed.none c.loop-opened.opened.items)
 

@@ -1,5 +1,5 @@
 use Rattle.std.proofs.Common.{ℕ, List, sym, ap, ◌∙◌, subst}
-use Rattle.pyfstring.specs.Texts.{behind_text}
+use Rattle.pyfstring.specs.Texts.{after_text}
 use Rattle.pyfstring.specs.Cutting.{EndsWith}
 use Rattle.pyfstring.proofs.Scanning.{text_more, text_none, text_shorter, text_ends}
 use Rattle.pyfstring.proofs.scanner.Scanner.text.Goals as goal
@@ -12,7 +12,7 @@ pub loop-preserved : goal.loop-preserved
 loop-preserved c =
     c.loop.invariant
     ∙ text_more c.args.is_raw c.args.has_pairs c.loop.self (sym c.pass_unit.ensures.found ∙ c.loop-test.true)
-    ∙ ap (behind_text c.args.is_raw c.args.has_pairs) (sym c.pass_unit.ensures.rest)
+    ∙ ap (after_text c.args.is_raw c.args.has_pairs) (sym c.pass_unit.ensures.rest)
 
 pub until-requires : goal.until-requires
 until-requires c =

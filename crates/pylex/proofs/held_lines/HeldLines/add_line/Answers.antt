@@ -31,7 +31,7 @@ returns-in-Text-clause-on g c =
       whole = sym m.chunk;
       base = omega arith;
       looked = inl refl;
-      behind = λ h. absurd (omega arith);
+      following = λ h. absurd (omega arith);
       left =
           left_longer c.args.at _ _ m.line c.requires.at m.chunk;
     }))

@@ -1,8 +1,8 @@
 use Rattle.std.proofs.Common.{◌≡◌, length, refl, subst, string_bytes, arith}
 use Rattle.std.specs.Str.{IsCharBoundary}
 use Rattle.pylex.proofs.LineByLine.Adding.{boundary_longer, reads_more}
-use Rattle.pylex.specs.Held.{LinesBehind}
-use Rattle.pylex.proofs.LineByLine.JoinedOn.{behind_first, holds_joined, holds_none}
+use Rattle.pylex.specs.Held.{LinesAfter}
+use Rattle.pylex.proofs.LineByLine.JoinedOn.{following_first, holds_joined, holds_none}
 use Rattle.pylex.proofs.held_lines.HeldLines.lengthen.Goals as goal
 
 pub add_lines-requires-clause-from : goal.add_lines-requires-clause-from
@@ -25,8 +25,8 @@ returns-in-Some-clause-holds g c =
     holds_joined old c.add_line.new.self c.args.at r s c.requires.at c.in-Some.literal _ _ c.add_lines.ensures.adds.added
     c.add_lines.ensures.adds.text
     (λ start a. c.add_lines.ensures.joins c.args.at start
-    (subst (λ n. LinesBehind c.in-Some.literal c.args.at n start c.add_line.new.self.lines (string_bytes c.add_line.new.self.text)) size
-    (behind_first old c.add_line.new.self c.args.at r s c.requires.at c.in-Some.literal start a open_by))))
+    (subst (λ n. LinesAfter c.in-Some.literal c.args.at n start c.add_line.new.self.lines (string_bytes c.add_line.new.self.text)) size
+    (following_first old c.add_line.new.self c.args.at r s c.requires.at c.in-Some.literal start a open_by))))
 
 pub returns-in_default-literal-clause-holds : goal.returns-in_default-literal-clause-holds
 returns-in_default-literal-clause-holds g c =

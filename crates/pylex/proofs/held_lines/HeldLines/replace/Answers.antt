@@ -28,7 +28,7 @@ returns-in-Text-clause-on g c =
       whole = ap (λ t. string_bytes old.text ++ t) (sym text);
       base = omega (arith, c.len.ensures);
       looked = inr refl;
-      behind = λ _. drop_all (string_bytes old.text);
+      following = λ _. drop_all (string_bytes old.text);
       left = text
           ∙ ap (λ t. t ++ m.line) (sym (drop_all (string_bytes old.text)));
     }))

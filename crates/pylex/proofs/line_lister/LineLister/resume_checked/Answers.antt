@@ -2,7 +2,7 @@ use Rattle.std.proofs.Common.{◌≡◌, ◌<◌, true, false, ◌⊎◌, inl, i
 use Rattle.std.proofs.lemmas.Result.{err_from_is_err_and}
 use Rattle.std.proofs.lemmas.Bool.{cases_Bool}
 use Rattle.pylex.specs.Streamed.{ResumeRefusal, is_unread}
-use Rattle.pylex.proofs.LineByLine.Behind.{begins_next, misses_stop, took_on, misses_shown}
+use Rattle.pylex.proofs.LineByLine.Following.{begins_next, misses_stop, took_on, misses_shown}
 use Rattle.pylex.proofs.line_lister.LineLister.resume_checked.Goals as goal
 
 pub returns-in_err-step-clause-misses : goal.returns-in_err-step-clause-misses

@@ -5,7 +5,7 @@ use Rattle.pylex.proofs.line_state.LineState.pass_blanks.Goals as goal
 pub returns : goal.returns
 returns c =
     let p = c.args.self.now in
-    let m = c.requires.behind in
+    let m = c.requires.following in
     is_after p _ _ (rw m refl) (record {
       now = place_offset _ _ _ _ (sym (c.requires.told.0 p.now.place)) c.requires.counted;
       line = refl;

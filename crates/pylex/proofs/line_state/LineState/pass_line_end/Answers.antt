@@ -6,7 +6,7 @@ use Rattle.pylex.proofs.line_state.LineState.pass_line_end.Goals as goal
 pub returns-clause-passed : goal.returns-clause-passed
 returns-clause-passed c =
     let p = c.args.self.now in
-    let m = c.requires.behind in
+    let m = c.requires.following in
     is_after p _ _ (rw m refl) (record {
       now = place_offset _ _ _ _ (sym (c.requires.told.0 p.now.place)) c.requires.counted;
       line = c.line_after-self.ensures;

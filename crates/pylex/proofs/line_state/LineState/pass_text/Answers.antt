@@ -7,7 +7,7 @@ use Rattle.pylex.proofs.line_state.LineState.pass_text.Goals as goal
 pub returns-clause-passed : goal.returns-clause-passed
 returns-clause-passed c =
     let p = c.args.self.now in
-    let m = c.requires.behind in
+    let m = c.requires.following in
     let t = text_after c.args.class c.requires.class in
     is_after p _ _ (rw m refl) (record {
       now = place_offset _ _ _ _ c.walk-lead.ensures.place c.requires.counted;

@@ -16,12 +16,12 @@ pub line_start-requires-clause-place : goal.line_start-requires-clause-place
 line_start-requires-clause-place c = has_place c.self.inside.source.now c.look_on-self-inside.new.self c.look_on-self-inside.result.now
     (keeps_look c.self.inside.source.now c.self.inside.machine c.look_on-self-inside.new.self c.self.inside.left.now
     c.look_on-self-inside.result.now
-    c.self.invariant (c.is_at_start.ensures.behind c.if-is_at_start.false) c.look_on-self-inside.ensures)
+    c.self.invariant (c.is_at_start.ensures.following c.if-is_at_start.false) c.look_on-self-inside.ensures)
 
 pub invariant_of-self : goal.invariant_of-self
 invariant_of-self c = keeps_look c.self.inside.source.now c.self.inside.machine c.look_on-self-inside.new.self c.self.inside.left.now
     c.look_on-self-inside.result.now
-    c.self.invariant (c.is_at_start.ensures.behind c.if-is_at_start.false) c.look_on-self-inside.ensures
+    c.self.invariant (c.is_at_start.ensures.following c.if-is_at_start.false) c.look_on-self-inside.ensures
 
 pub returns-clause-begins : goal.returns-clause-begins
 returns-clause-begins c =
@@ -29,7 +29,7 @@ returns-clause-begins c =
     let old = c.self.inside.machine in
     let new = c.look_on-self-inside.new.self in
     let left = c.look_on-self-inside.result.now in
-    let some = c.is_at_start.ensures.behind c.if-is_at_start.false in
+    let some = c.is_at_start.ensures.following c.if-is_at_start.false in
     let keeps = keeps_look source old new c.self.inside.left.now left c.self.invariant some c.look_on-self-inside.ensures in
     let count = ap (λ (m : Machine). m.given) c.look_on-self-inside.ensures.rest in
     let same = ap (listed source) c.look_on-self-inside.ensures.rest ∙ c.self.view_is in

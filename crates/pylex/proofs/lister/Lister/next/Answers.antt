@@ -22,7 +22,7 @@ seen old same step new e m = rw (← e) m
 no_stop : (e : Entry) → peeked.Entry e ≡ peeked.Stop → ⊥
 no_stop e k = cc
 
--- past an entry the lister stands behind it
+-- past an entry the lister stands after it
 entry_passed : (source : Parts) (p r : Machine) (from to : List ℕ) (e : Entry) → Holds source p from → StepsOn p from e r to
     → NextStep (listed source p) (steps.Entry e) (listed source r) × Holds source r to
 entry_passed source p r from to e keeps s = (s.went None).goes source from to keeps (s.reaches.entry (take p.nested p.levels.items))
@@ -56,14 +56,14 @@ looked source p q r from to keeps some x same =
 pub step_on-requires-clause-some : goal.step_on-requires-clause-some
 step_on-requires-clause-some c =
     let same = ap (λ (m : Machine). m.given) c.look_on-self-inside.ensures.rest in
-    let some = c.is_at_start.ensures.behind c.if-is_at_start.false in
+    let some = c.is_at_start.ensures.following c.if-is_at_start.false in
     omega (arith, same, some)
 
 pub step_on-requires-clause-place : goal.step_on-requires-clause-place
 step_on-requires-clause-place c = has_place c.self.inside.source.now c.look_on-self-inside.new.self c.look_on-self-inside.result.now
     (keeps_look c.self.inside.source.now c.self.inside.machine c.look_on-self-inside.new.self c.self.inside.left.now
     c.look_on-self-inside.result.now
-    c.self.invariant (c.is_at_start.ensures.behind c.if-is_at_start.false) c.look_on-self-inside.ensures)
+    c.self.invariant (c.is_at_start.ensures.following c.if-is_at_start.false) c.look_on-self-inside.ensures)
 
 pub step_on-requires-clause-stands : goal.step_on-requires-clause-stands
 step_on-requires-clause-stands c = c.look_on-self-inside.ensures.stands
@@ -72,7 +72,7 @@ pub invariant_of-self-in-Some : goal.invariant_of-self-in-Some
 invariant_of-self-in-Some c =
     let source = c.self.inside.source.now in
     let from = c.self.inside.left.now in
-    let some = c.is_at_start.ensures.behind c.if-is_at_start.false in
+    let some = c.is_at_start.ensures.following c.if-is_at_start.false in
     let keeps = keeps_look source c.self.inside.machine c.look_on-self-inside.new.self from c.look_on-self-inside.result.now
     c.self.invariant some c.look_on-self-inside.ensures in
     (entry_passed source c.look_on-self-inside.new.self c.step_on.new.self c.look_on-self-inside.result.now
@@ -83,7 +83,7 @@ pub returns-in-Some-clause-steps : goal.returns-in-Some-clause-steps
 returns-in-Some-clause-steps c =
     let source = c.self.inside.source.now in
     let from = c.self.inside.left.now in
-    let some = c.is_at_start.ensures.behind c.if-is_at_start.false in
+    let some = c.is_at_start.ensures.following c.if-is_at_start.false in
     let keeps = keeps_look source c.self.inside.machine c.look_on-self-inside.new.self from c.look_on-self-inside.result.now
     c.self.invariant some c.look_on-self-inside.ensures in
     seen _ _ _ _ (ap (listed source) c.look_on-self-inside.ensures.rest ∙ c.self.view_is)
@@ -95,7 +95,7 @@ pub returns-in-Some-clause-given : goal.returns-in-Some-clause-given
 returns-in-Some-clause-given c =
     let source = c.self.inside.source.now in
     let from = c.self.inside.left.now in
-    let some = c.is_at_start.ensures.behind c.if-is_at_start.false in
+    let some = c.is_at_start.ensures.following c.if-is_at_start.false in
     let keeps = keeps_look source c.self.inside.machine c.look_on-self-inside.new.self from c.look_on-self-inside.result.now
     c.self.invariant some c.look_on-self-inside.ensures in
     (has_place source c.step_on.new.self c.in-Some.left.now (entry_passed source c.look_on-self-inside.new.self c.step_on.new.self
@@ -116,7 +116,7 @@ pub layout_on-requires : goal.layout_on-requires
 layout_on-requires c =
     let source = c.self.inside.source.now in
     let to = c.look_on-self-inside.result.now in
-    let some = c.is_at_start.ensures.behind c.if-is_at_start.false in
+    let some = c.is_at_start.ensures.following c.if-is_at_start.false in
     let none = c.in_default.ensures.none refl in
     let keeps = looked source c.self.inside.machine c.look_on-self-inside.new.self c.step_on.new.self c.self.inside.left.now to
     c.self.invariant some c.look_on-self-inside.ensures none in
@@ -131,7 +131,7 @@ pub invariant_of-self-in_err-step : goal.invariant_of-self-in_err-step
 invariant_of-self-in_err-step c =
     let source = c.self.inside.source.now in
     let to = c.look_on-self-inside.result.now in
-    let some = c.is_at_start.ensures.behind c.if-is_at_start.false in
+    let some = c.is_at_start.ensures.following c.if-is_at_start.false in
     let none = c.in_default.ensures.none refl in
     let keeps = looked source c.self.inside.machine c.look_on-self-inside.new.self c.step_on.new.self c.self.inside.left.now to
     c.self.invariant some c.look_on-self-inside.ensures none in
@@ -141,7 +141,7 @@ pub returns-in_err-step-clause-indent : goal.returns-in_err-step-clause-indent
 returns-in_err-step-clause-indent c =
     let source = c.self.inside.source.now in
     let to = c.look_on-self-inside.result.now in
-    let some = c.is_at_start.ensures.behind c.if-is_at_start.false in
+    let some = c.is_at_start.ensures.following c.if-is_at_start.false in
     let none = c.in_default.ensures.none refl in
     let keeps = looked source c.self.inside.machine c.look_on-self-inside.new.self c.step_on.new.self c.self.inside.left.now to
     c.self.invariant some c.look_on-self-inside.ensures none in
@@ -155,7 +155,7 @@ pub returns-in_err-step-clause-given : goal.returns-in_err-step-clause-given
 returns-in_err-step-clause-given c =
     let source = c.self.inside.source.now in
     let to = c.look_on-self-inside.result.now in
-    let some = c.is_at_start.ensures.behind c.if-is_at_start.false in
+    let some = c.is_at_start.ensures.following c.if-is_at_start.false in
     let none = c.in_default.ensures.none refl in
     let keeps = looked source c.self.inside.machine c.look_on-self-inside.new.self c.step_on.new.self c.self.inside.left.now to
     c.self.invariant some c.look_on-self-inside.ensures none in
@@ -166,7 +166,7 @@ pub invariant_of-self-in-Some-2 : goal.invariant_of-self-in-Some-2
 invariant_of-self-in-Some-2 c =
     let source = c.self.inside.source.now in
     let to = c.look_on-self-inside.result.now in
-    let some = c.is_at_start.ensures.behind c.if-is_at_start.false in
+    let some = c.is_at_start.ensures.following c.if-is_at_start.false in
     let none = c.in_default.ensures.none refl in
     let keeps = looked source c.self.inside.machine c.look_on-self-inside.new.self c.step_on.new.self c.self.inside.left.now to
     c.self.invariant some c.look_on-self-inside.ensures none in
@@ -177,7 +177,7 @@ pub returns-in-Some-2-clause-steps : goal.returns-in-Some-2-clause-steps
 returns-in-Some-2-clause-steps c =
     let source = c.self.inside.source.now in
     let to = c.look_on-self-inside.result.now in
-    let some = c.is_at_start.ensures.behind c.if-is_at_start.false in
+    let some = c.is_at_start.ensures.following c.if-is_at_start.false in
     let none = c.in_default.ensures.none refl in
     let keeps = looked source c.self.inside.machine c.look_on-self-inside.new.self c.step_on.new.self c.self.inside.left.now to
     c.self.invariant some c.look_on-self-inside.ensures none in
@@ -189,7 +189,7 @@ pub returns-in-Some-2-clause-given : goal.returns-in-Some-2-clause-given
 returns-in-Some-2-clause-given c =
     let source = c.self.inside.source.now in
     let to = c.look_on-self-inside.result.now in
-    let some = c.is_at_start.ensures.behind c.if-is_at_start.false in
+    let some = c.is_at_start.ensures.following c.if-is_at_start.false in
     let none = c.in_default.ensures.none refl in
     let keeps = looked source c.self.inside.machine c.look_on-self-inside.new.self c.step_on.new.self c.self.inside.left.now to
     c.self.invariant some c.look_on-self-inside.ensures none in
@@ -201,7 +201,7 @@ pub invariant_of-self-2 : goal.invariant_of-self-2
 invariant_of-self-2 c =
     let source = c.self.inside.source.now in
     let to = c.look_on-self-inside.result.now in
-    let some = c.is_at_start.ensures.behind c.if-is_at_start.false in
+    let some = c.is_at_start.ensures.following c.if-is_at_start.false in
     let none = c.in_default.ensures.none refl in
     let keeps = looked source c.self.inside.machine c.look_on-self-inside.new.self c.step_on.new.self c.self.inside.left.now to
     c.self.invariant some c.look_on-self-inside.ensures none in

@@ -5,7 +5,7 @@ use Rattle.pylex_listing.specs.Steps.{entries_in}
 use Rattle.pylex.specs.Listers.{StandsIn}
 use Rattle.pylex.proofs.Listers.Moving.{entry_due}
 use Rattle.pylex.proofs.lister.Lister.resume_checked.Goals as goal
-use Rattle.pylex.proofs.Callers.{is_behind}
+use Rattle.pylex.proofs.Callers.{is_following}
 
 pub returns-in_default : goal.returns-in_default
 returns-in_default c =
@@ -15,7 +15,7 @@ returns-in_default c =
       lister = tt;
       own = tt;
       leads = tt;
-      another = λ _ is. let w = (is_behind is).within in let due =
+      another = λ _ is. let w = (is_following is).within in let due =
           entry_due a c.loop-given._given c.in_ok-step.step (omega arith) moved.0 in
           c.in_default.not-Entry due.0 due.1;
       fault = λ e. absurd cc;
@@ -41,8 +41,8 @@ returns-then-not-shows-clause-another c = λ _ own.
       c.loop-given.auto._given-end,
       c.given-given-end.ensures,
     ) in
-    let same : c.args.cursor.now ≡ c.loop-given.lister.shown = (is_behind own).is ∙ ap (cursor a) (sym end ∙ sym stands.count)
-    ∙ sym (is_behind stands.cursor).is in
+    let same : c.args.cursor.now ≡ c.loop-given.lister.shown = (is_following own).is ∙ ap (cursor a) (sym end ∙ sym stands.count)
+    ∙ sym (is_following stands.cursor).is in
     let t = c.shows.ensures.1 same in
     let n = c.if-not-shows.ensures in
     let f = rw (n, t) at c.if-not-shows.true in

@@ -12,7 +12,7 @@ use Rattle.pylex.specs.declared.peeked.Peeked.{Peeked}
 use Rattle.pylex.specs.declared.peeked.Peeked.TheVariants as peeked
 use Rattle.pylex.specs.Listers.{Listed}
 use Rattle.pylex.specs.declared.machine.Machine.{Machine}
-use Rattle.pylex.specs.Inner.MachineSteps.{shown_from, left_by, Holds, Ranges, StaysBehind}
+use Rattle.pylex.specs.Inner.MachineSteps.{shown_from, left_by, Holds, Ranges, StaysAfter}
 use Rattle.pylex_listing.specs.Steps.{entries_in, first_step}
 use Rattle.pylex.proofs.Listers.Moving.{ascending-take, leads_moves, leads_fault, leads_stop, goes_entry, goes_indent, goes_dedent}
 use Rattle.pylex.proofs.Listers.Moving.{goes_end, stop_in}
@@ -22,7 +22,7 @@ use Rattle.pylex_listing.specs.declared.kind.Kind.TheVariants as kinds
 use Rattle.pylex.proofs.Listers.Ranges.{entry_range, measuring_comes, measuring_anew, indent_range, mark_range, column_within}
 use Rattle.pylex.proofs.machine.Machine.advance.Goals as goal
 
--- what is met behind a stop
+-- what is met after a stop
 not_stopped : (n : ℕ) (m : Peeked) → (0 < n → m ≡ peeked.Stop) → (m ≡ peeked.Stop → ⊥) → n ≡ 0
 not_stopped zero m h never = refl
 not_stopped (suc n) m h never = absurd (never (h (omega arith)))
@@ -169,7 +169,7 @@ returns-in-Entry-step-clause-went c = rw c.in-Entry-step.is (record {
       (omega (arith, r.0, n), r.1);
 })
 
--- nothing is left behind a step without entry but what was left
+-- nothing is left after a step without entry but what was left
 left_same : (s : Step) (from to : List ℕ) → ((e : Entry) → s ≡ steps.Entry e → ⊥) → left_by s from to ≡ from
 left_same (steps.Entry e) from to h = absurd (h e refl)
 left_same steps.End from to h = refl
@@ -182,7 +182,7 @@ no_range low high steps.End h = tt
 no_range low high (steps.Fault f) h = tt
 
 -- nor does it change anything
-stays_stop : (p : Machine) (m : Peeked) (s : Step) → ((e : Entry) → s ≡ steps.Entry e → ⊥) → m ≡ peeked.Stop → StaysBehind p m p s
+stays_stop : (p : Machine) (m : Peeked) (s : Step) → ((e : Entry) → s ≡ steps.Entry e → ⊥) → m ≡ peeked.Stop → StaysAfter p m p s
 stays_stop p m (steps.Entry e) h is = absurd (h e refl)
 stays_stop p m steps.End h is = (refl, inl is)
 stays_stop p m (steps.Fault f) h is = (refl, inl is)

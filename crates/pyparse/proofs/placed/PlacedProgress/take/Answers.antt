@@ -2,7 +2,7 @@ use Rattle.std.proofs.Common.{◌∙◌, ◌≡◌, ◌+◌, ◌++◌, ◌∷◌
 use Rattle.std.proofs.lemmas.Bool.{false≢true}
 use Rattle.pysource.specs.declared.places.Place.{Place}
 use Rattle.pylex_listing.specs.Listing.{in_characters}
-use Rattle.pytoken.specs.Inner.Behind.{behind}
+use Rattle.pytoken.specs.Inner.Following.{following}
 use Rattle.pygrammar.specs.FormOf.{form_of}
 use Rattle.pygrammar.specs.Lines.{line}
 use Rattle.pyparse_marks.specs.LineSpans.{line_spans}
@@ -49,11 +49,11 @@ returns c k held spans was =
     let form = form_of c.in-Some.read.form in
     let holds : Holds profile s k was.forms c.args.self.now.progress = record { known = was.known; last_lines = was.last_lines } in
     let found = (c.in_ok-read.ensures k was.forms held holds).found c.in-Some.read c.in-Some.is in
-    let comes = subst (λ (n : ℕ). Comes profile s k (behind [] was.forms) (line n form) c.args.lines.now.start) (sym c.level-level.ensures)
+    let comes = subst (λ (n : ℕ). Comes profile s k (following [] was.forms) (line n form) c.args.lines.now.start) (sym c.level-level.ensures)
     found.1.comes in
     let kept = c.in_ok-keep.ensures profile s k was.forms
     (subst (λ (p : Progress). Holds profile s k was.forms p) (sym found.0) holds)
-    (subst (λ (p : Place). Comes profile s k (behind [] was.forms) (line c.level-level.result form) p) (sym c.start.ensures) comes) in
+    (subst (λ (p : Place). Comes profile s k (following [] was.forms) (line c.level-level.result form) p) (sym c.start.ensures) comes) in
     let f = places_at found.1.comes.form.is in
     let ms = map told c.args.marks.now in
     let runs = runs_cut ms f c.in-Some.read c.new-recorder.result c.read.new.recorder (map told c.spans-spans.result.now)
@@ -61,7 +61,7 @@ returns c k held spans was =
     let lent : LinePlaces = record {
       whole = told c.whole_of.result;
       before = map told c.run_of.result.now;
-      behind = map told c.run_of-2.result.now;
+      following = map told c.run_of-2.result.now;
       suite = map told c.run_of-3.result.now;
     } in
     let given = line_given ms f c.in-Some.read c.spans-spans.result.now c.run_of.result.now c.run_of-2.result.now c.run_of-3.result.now
@@ -69,7 +69,7 @@ returns c k held spans was =
     (ap (λ (w : Span). record {
       whole = w;
       before = map told c.run_of.result.now;
-      behind = map told c.run_of-2.result.now;
+      following = map told c.run_of-2.result.now;
       suite = map told c.run_of-3.result.now;
     }) c.whole_of.ensures) in
     let here = line_of (line_spans s.text found.1.comes.line) f in

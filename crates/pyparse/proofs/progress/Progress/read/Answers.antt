@@ -1,6 +1,6 @@
 use Rattle.std.proofs.Common.{◌≡◌, ◌∙◌, [], List, map, refl, ap, subst, ℕ}
 use Rattle.pylex_listing.specs.Listing.{in_characters}
-use Rattle.pytoken.specs.Inner.Behind.{behind}
+use Rattle.pytoken.specs.Inner.Following.{following}
 use Rattle.pytoken.specs.Terminals.{Terminal}
 use Rattle.pytoken.specs.TerminalOf.{terminal}
 use Rattle.pygrammar.specs.Blocks.{stands_in_match}
@@ -14,7 +14,7 @@ pub returns-in-Ok : goal.returns-in-Ok
 returns-in-Ok g c k forms held was =
     let found = found_held forms c.inside-inside.result (map terminal c.terminals.result.now) c.level.result
     c.in-Ok.read c.args.recorder.now
-    c.read_line.new.recorder held (c.inside-inside.ensures (behind [] forms) was.last_lines) c.terminals.ensures c.level.ensures
+    c.read_line.new.recorder held (c.inside-inside.ensures (following [] forms) was.last_lines) c.terminals.ensures c.level.ensures
     c.in-Ok.ensures.form.1 c.in-Ok.ensures.placed in
     record {
       found = λ read is.
@@ -31,7 +31,7 @@ pub returns-in_ok-refuse-in-Err : goal.returns-in_ok-refuse-in-Err
 returns-in_ok-refuse-in-Err g c k forms held was = record {
   found = λ read is. absurd (cc);
   none = λ is. c.in_ok-refuse-in-Err.ensures c.inside-inside.result k forms held was
-      (c.inside-inside.ensures (behind [] forms) was.last_lines ∙ ap (λ (l : ℕ). stands_in_match l (behind [] forms)) c.level.ensures)
+      (c.inside-inside.ensures (following [] forms) was.last_lines ∙ ap (λ (l : ℕ). stands_in_match l (following [] forms)) c.level.ensures)
       (subst (λ (ts : List Terminal). Refused c.in-Err.stop c.args.profile c.inside-inside.result ts) c.terminals.ensures
       c.in-Err.ensures.form);
 }

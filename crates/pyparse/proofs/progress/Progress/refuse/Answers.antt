@@ -1,6 +1,6 @@
 use Rattle.std.proofs.Common.{◌∙◌, ◌+◌, ◌&&◌, [], List, not, refl, ap, subst, sym, Bool}
 use Rattle.pylex_listing.specs.Listing.{in_characters}
-use Rattle.pytoken.specs.Inner.Behind.{behind}
+use Rattle.pytoken.specs.Inner.Following.{following}
 use Rattle.pytoken.specs.Terminals.{Terminal}
 use Rattle.pygrammar.specs.Forms.{is_whole}
 use Rattle.pygrammar.specs.Refusals.{StartsAt, Unread}
@@ -13,7 +13,7 @@ use Rattle.pyparse.proofs.progress.Progress.refuse.Goals as goal
 pub returns : goal.returns
 returns c inside k forms held was stands refused =
     let s = in_characters c.args.lines.now.source in
-    let here = place_held (behind [] forms) inside c.args.lines.now.level held stands refl in
+    let here = place_held (following [] forms) inside c.args.lines.now.level held stands refl in
     let unread =
     c.in_ok-error.ensures c.args.profile inside held.line
     (subst (λ (ts : List Terminal). Refused c.args.stop c.args.profile inside ts) held.holds.terminals refused)

@@ -1,7 +1,7 @@
 use Rattle.std.proofs.Common.{◌∙◌, ◌++◌, ◌∷◌, [], ℕ, sym, subst}
 use Rattle.pysource.specs.declared.places.Place.{Place}
 use Rattle.pylex_listing.specs.Listing.{in_characters}
-use Rattle.pytoken.specs.Inner.Behind.{behind}
+use Rattle.pytoken.specs.Inner.Following.{following}
 use Rattle.pygrammar.specs.FormOf.{form_of}
 use Rattle.pygrammar.specs.Lines.{line}
 use Rattle.pyparse.specs.declared.progress.Progress.{Progress}
@@ -31,9 +31,9 @@ returns c k held was =
     let form = form_of c.in-Some.read.form in
     let holds : Holds profile s k was.forms c.args.self.now = record { known = was.known; last_lines = was.last_lines } in
     let found = (c.in_ok-read.ensures k was.forms held holds).found c.in-Some.read c.in-Some.is in
-    let comes = subst (λ (n : ℕ). Comes profile s k (behind [] was.forms) (line n form) c.args.lines.now.start) (sym c.level-level.ensures)
+    let comes = subst (λ (n : ℕ). Comes profile s k (following [] was.forms) (line n form) c.args.lines.now.start) (sym c.level-level.ensures)
     found.1.comes in
     let kept = c.in_ok-keep.ensures profile s k was.forms
     (subst (λ (p : Progress). Holds profile s k was.forms p) (sym found.0) holds)
-    (subst (λ (p : Place). Comes profile s k (behind [] was.forms) (line c.level-level.result form) p) (sym c.start.ensures) comes) in
+    (subst (λ (p : Place). Comes profile s k (following [] was.forms) (line c.level-level.result form) p) (sym c.start.ensures) comes) in
     record { forms = was.forms ++ line c.level-level.result form ∷ []; known = kept.known; last_lines = kept.last_lines }

@@ -3,7 +3,7 @@ use Rattle.std.proofs.Common.{length-append}
 use Rattle.std.proofs.lemmas.List.{take_rest}
 use Rattle.std.proofs.lemmas.Result.{err_from_is_err_and}
 use Rattle.pysource.specs.Taking.{NoLfFrom}
-use Rattle.pysource.proofs.FaultyLines.ReturnsLemmas.{found_behind, none_behind}
+use Rattle.pysource.proofs.FaultyLines.ReturnsLemmas.{found_after, none_after}
 use Rattle.pysource.proofs.TakenBytes.TakingLemmas.{ReadsBytes-none, Grows-append, kept_or_full, clean_on, clean_under}
 use Rattle.pysource.proofs.buffers.Intake.line_end.Goals as goal
 
@@ -11,7 +11,7 @@ pub returns-in-Some-clause-found : goal.returns-in-Some-clause-found
 returns-in-Some-clause-found g c =
     let l = c.loop-at in
     let same : c.bytes-bytes.result.now ≡ l.self.buffer = c.bytes-bytes.ensures in
-    let found = found_behind 10 c.bytes-bytes.result.now _ l.searched _ c.in-Some.at (take_rest c.bytes-bytes.result.now l.searched)
+    let found = found_after 10 c.bytes-bytes.result.now _ l.searched _ c.in-Some.at (take_rest c.bytes-bytes.result.now l.searched)
     c.memchr.ensures c.in-Some.is in
     let inside : l.searched + c.in-Some.at < length l.self.buffer = omega (arith, found.0, ap length same) in
     let end : l.searched + c.in-Some.at + 1 - 1 ≡ l.searched + c.in-Some.at = omega arith in
@@ -38,7 +38,7 @@ loop-at-preserved g c =
     let size = ap length same in
     let grown = ap length f.grows.bytes in
     let more = length-append l.self.buffer f.grows.taken in
-    let none = none_behind 10 bs _ l.searched _ (take_rest bs l.searched) c.memchr.ensures c.in_default.is in
+    let none = none_after 10 bs _ l.searched _ (take_rest bs l.searched) c.memchr.ensures c.in_default.is in
     record {
       within = f.within;
       grows = Grows-append c.in-Reading.is l.invariant.grows f.grows;
@@ -64,7 +64,7 @@ returns-in_default-reach-clause-found g c =
     let l = c.loop-at in
     let bs = c.bytes-bytes.result.now in
     let same : bs ≡ l.self.buffer = c.bytes-bytes.ensures in
-    let none = none_behind 10 bs _ l.searched _ (take_rest bs l.searched) c.memchr.ensures c.in_default.is in
+    let none = none_after 10 bs _ l.searched _ (take_rest bs l.searched) c.memchr.ensures c.in_default.is in
     record {
       none = clean_on c.args.start l.searched (length l.self.buffer) l.self.buffer l.invariant.clean
           (subst (λ (x : List ℕ). NoLfFrom l.searched (length x) x) same none);
@@ -88,7 +88,7 @@ returns-in_err-fill-in-Reading-clause-found g c =
     let e = c.in_err-fill-in-Reading.ensures.err in
     let bs = c.bytes-bytes.result.now in
     let same : bs ≡ l.self.buffer = c.bytes-bytes.ensures in
-    let none = none_behind 10 bs _ l.searched _ (take_rest bs l.searched) c.memchr.ensures c.in_default.is in
+    let none = none_after 10 bs _ l.searched _ (take_rest bs l.searched) c.memchr.ensures c.in_default.is in
     let clean : NoLfFrom c.args.start (length l.self.buffer) l.self.buffer =
     clean_on c.args.start l.searched (length l.self.buffer) l.self.buffer l.invariant.clean
     (subst (λ (x : List ℕ). NoLfFrom l.searched (length x) x) same none) in

@@ -6,12 +6,12 @@ use Rattle.pytoken.proofs.values.bodies.after_opening.Goals as goal
 
 pub returns-then-has_three : goal.returns-then-has_three
 returns-then-has_three c =
-    c.behind.ensures ∙ ap (drop 3) c.behind_prefix-opened.ensures
-    ∙ opening_three (chars c.args.text.now) (sym (ap begins_three c.behind_prefix-opened.ensures) ∙ sym c.has_three.ensures
+    c.following.ensures ∙ ap (drop 3) c.following_prefix-opened.ensures
+    ∙ opening_three (chars c.args.text.now) (sym (ap begins_three c.following_prefix-opened.ensures) ∙ sym c.has_three.ensures
     ∙ c.if-has_three.true)
 
 pub returns : goal.returns
 returns c =
-    c.behind-2.ensures ∙ ap (drop 1) c.behind_prefix-opened.ensures
-    ∙ opening_one (chars c.args.text.now) (sym (ap begins_three c.behind_prefix-opened.ensures) ∙ sym c.has_three.ensures
+    c.following-2.ensures ∙ ap (drop 1) c.following_prefix-opened.ensures
+    ∙ opening_one (chars c.args.text.now) (sym (ap begins_three c.following_prefix-opened.ensures) ∙ sym c.has_three.ensures
     ∙ c.if-has_three.false)

@@ -27,7 +27,7 @@ returns-in_default c =
     let far = c.loop-count.invariant in
     let end = far_end c.args.radix c.args.most c.loop-count.count c.loop-count.value c.loop-count.text c.args.text.now far
     (no_digits c.args.radix far.left c.loop-count.text (sym c.digit.ensures ∙ c.in_default.is)) in
-    record { count = end.0; value = end.1; behind = end.2 }
+    record { count = end.0; value = end.1; following = end.2 }
 
 pub returns-after-loop-count : goal.returns-after-loop-count
 returns-after-loop-count c =
@@ -35,4 +35,4 @@ returns-after-loop-count c =
     let end = far_end c.args.radix c.args.most c.loop-count.count c.loop-count.value c.loop-count.text c.args.text.now far
     (none_wanted c.args.radix c.args.most c.loop-count.count c.loop-count.value c.loop-count.text c.args.text.now far
     c.loop-count-test.false) in
-    record { count = end.0; value = end.1; behind = end.2 }
+    record { count = end.0; value = end.1; following = end.2 }

@@ -5,7 +5,7 @@ use Rattle.pytoken.proofs.values.escapes.escape.Goals as goal
 pub returns-in_default : goal.returns-in_default
 returns-in_default c =
     let none = sym c.first.ensures ∙ c.in_default.is in
-    takes_by _ _ _ _ _ (by_end c.args.bytes c.args.text.now none) (record { meaning = refl; behind = refl })
+    takes_by _ _ _ _ _ (by_end c.args.bytes c.args.text.now none) (record { meaning = refl; following = refl })
 
 pub returns-then-first-eq10 : goal.returns-then-first-eq10
 returns-then-first-eq10 c =
@@ -51,4 +51,4 @@ returns-in-None c =
     (ap (λ (o : Option ℕ). is_some o) (sym c.digit.ensures) ∙ sym c.if-is_some.ensures) in
     takes_by _ _ _ _ _ (by_other c.args.bytes c.in-Some.first c.hexadecimal_len-wanted.result c.args.text.now other
     c.hexadecimal_len-wanted.ensures.len c.if-wanted-gt0.false (sym c.if-names_character.ensures) (sym c.point_of.ensures ∙ c.in-None.is))
-    (record { meaning = refl; behind = refl })
+    (record { meaning = refl; following = refl })

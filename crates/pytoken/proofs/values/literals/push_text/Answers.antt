@@ -11,7 +11,7 @@ loop-meaning-init c = record { whole = refl; points = points_are_in_range c.args
 pub push_point-requires : goal.push_point-requires
 push_point-requires c =
     let first = sym c.next_meaning.ensures.meaning ∙ c.in-Some.is in
-    (parts_on is_point c.args.raw _ c.loop-meaning.left c.next_meaning.new.text c.in-Some.meaning first c.next_meaning.ensures.behind
+    (parts_on is_point c.args.raw _ c.loop-meaning.left c.next_meaning.new.text c.in-Some.meaning first c.next_meaning.ensures.following
     c.loop-meaning.invariant.points).0
 
 pub loop-meaning-smaller : goal.loop-meaning-smaller
@@ -19,13 +19,13 @@ loop-meaning-smaller c =
     let cut : Cut c.args.raw c.next_meaning.new.text c.bump_plain.result.now c.bump_plain.new.self =
     record { whole = c.bump_plain.ensures.whole; plain = c.bump_plain.ensures.plain } in
     cut_shorter c.args.raw false c.loop-meaning.left c.next_meaning.new.text c.bump_plain.result.now c.bump_plain.new.self c.in-Some.meaning
-    (sym c.next_meaning.ensures.meaning ∙ c.in-Some.is) c.next_meaning.ensures.behind cut
+    (sym c.next_meaning.ensures.meaning ∙ c.in-Some.is) c.next_meaning.ensures.following cut
 
 pub loop-meaning-preserved : goal.loop-meaning-preserved
 loop-meaning-preserved c =
     let first = sym c.next_meaning.ensures.meaning ∙ c.in-Some.is in
     let parts = parts_on is_point c.args.raw false c.loop-meaning.left c.next_meaning.new.text c.in-Some.meaning first
-    c.next_meaning.ensures.behind
+    c.next_meaning.ensures.following
     c.loop-meaning.invariant.points in
     let cut : Cut c.args.raw c.next_meaning.new.text c.bump_plain.result.now c.bump_plain.new.self =
     record { whole = c.bump_plain.ensures.whole; plain = c.bump_plain.ensures.plain } in
@@ -34,7 +34,7 @@ loop-meaning-preserved c =
           c.push_bytes.new.self _ cut c.in_ok-push_bytes.ensures
           (points_on c.args.raw false c.loop-meaning.left c.next_meaning.new.text c.in-Some.meaning c.loop-meaning.points
           c.push_point.new.points _
-          first c.next_meaning.ensures.behind c.in_ok-push_point.ensures c.loop-meaning.invariant.whole);
+          first c.next_meaning.ensures.following c.in_ok-push_point.ensures c.loop-meaning.invariant.whole);
       points = cut_parts is_point c.args.raw false c.next_meaning.new.text c.bump_plain.result.now c.bump_plain.new.self cut parts.1;
     }
 

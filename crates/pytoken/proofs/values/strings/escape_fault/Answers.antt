@@ -11,7 +11,7 @@ loop-meaning-smaller c =
     let cut : Cut c.args.raw c.next_meaning.new.text c.bump_plain.result.now c.bump_plain.new.self =
     record { whole = c.bump_plain.ensures.whole; plain = c.bump_plain.ensures.plain } in
     cut_shorter c.args.raw c.args.bytes c.loop-meaning.left c.next_meaning.new.text c.bump_plain.result.now c.bump_plain.new.self
-    c.in-Some.meaning (sym c.next_meaning.ensures.meaning ∙ c.in-Some.is) c.next_meaning.ensures.behind cut
+    c.in-Some.meaning (sym c.next_meaning.ensures.meaning ∙ c.in-Some.is) c.next_meaning.ensures.following cut
 
 pub loop-meaning-preserved : goal.loop-meaning-preserved
 loop-meaning-preserved c =
@@ -28,12 +28,12 @@ loop-meaning-preserved c =
           ∙ ap (λ (x : Bool). x || list_any is_named_escape left) named
           ∙ any_on is_named_escape c.args.raw c.args.bytes c.loop-meaning.left c.next_meaning.new.text c.in-Some.meaning
           c.loop-meaning.named _ first
-          c.next_meaning.ensures.behind c.loop-meaning.invariant.named;
+          c.next_meaning.ensures.following c.loop-meaning.invariant.named;
       bad = ap (λ (x : Bool). c.either-bad.result || x)
           (cut_any is_bad_escape (λ m. refl) c.args.raw c.args.bytes c.next_meaning.new.text c.bump_plain.result.now
           c.bump_plain.new.self cut)
           ∙ ap (λ (x : Bool). x || list_any is_bad_escape left) bad ∙ any_on is_bad_escape c.args.raw c.args.bytes c.loop-meaning.left
-          c.next_meaning.new.text c.in-Some.meaning c.loop-meaning.bad _ first c.next_meaning.ensures.behind c.loop-meaning.invariant.bad;
+          c.next_meaning.new.text c.in-Some.meaning c.loop-meaning.bad _ first c.next_meaning.ensures.following c.loop-meaning.invariant.bad;
     }
 
 pub returns-then-named : goal.returns-then-named

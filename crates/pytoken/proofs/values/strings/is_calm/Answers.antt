@@ -10,7 +10,7 @@ pub returns-then-is_doubtful : goal.returns-then-is_doubtful
 returns-then-is_doubtful c =
     let front : Past (chars_rest c.loop-c.c-iterator) (chars_rest c.next.new.self) c.in-Some.c = past (chars_rest c.loop-c.c-iterator)
     (chars_rest c.next.new.self) c.in-Some.c c.loop-c.invariant.utf8 c.in-Some.ensures.steps.0 in
-    sym (calm_stops c.args.bytes c.loop-c.behind c.in-Some.c (chars (chars_rest c.loop-c.c-iterator))
+    sym (calm_stops c.args.bytes c.loop-c.following c.in-Some.c (chars (chars_rest c.loop-c.c-iterator))
     (chars (chars_rest c.next.new.self)) front.same
     (sym c.if-is_doubtful.ensures)) ∙ c.loop-c.invariant.same
 
@@ -19,7 +19,7 @@ loop-c-preserved c =
     let front : Past (chars_rest c.loop-c.c-iterator) (chars_rest c.next.new.self) c.in-Some.c = past (chars_rest c.loop-c.c-iterator)
     (chars_rest c.next.new.self) c.in-Some.c c.loop-c.invariant.utf8 c.in-Some.ensures.steps.0 in
     record {
-      same = calm_goes c.args.bytes c.loop-c.behind c.in-Some.c (chars (chars_rest c.loop-c.c-iterator))
+      same = calm_goes c.args.bytes c.loop-c.following c.in-Some.c (chars (chars_rest c.loop-c.c-iterator))
           (chars (chars_rest c.next.new.self)) front.same
           (sym c.if-is_doubtful.ensures) ∙ c.loop-c.invariant.same;
       utf8 = front.utf8;
@@ -27,5 +27,5 @@ loop-c-preserved c =
 
 pub returns : goal.returns
 returns c =
-    sym (ap (is_calm c.args.bytes c.loop-c.behind) (no_chars (chars_rest c.loop-c.c-iterator) c.in-None.ensures.steps.0.0))
+    sym (ap (is_calm c.args.bytes c.loop-c.following) (no_chars (chars_rest c.loop-c.c-iterator) c.in-None.ensures.steps.0.0))
     ∙ c.loop-c.invariant.same

@@ -1,4 +1,4 @@
--- A lister over lines that goes on behind a cursor.
+-- A lister over lines that goes on after a cursor.
 --
 -- Carries: LineLister::resume_checked. On: Ends, Moving, Callers.
 use Rattle.std.proofs.Common.{◌≡◌, ◌⊎◌, inl, inr, ⊎_elim, ℕ, zero, suc, ◌+◌, ◌≤◌, ◌<◌, Bool, true, false, List, [], ◌∷◌, ◌++◌, length}
@@ -26,7 +26,7 @@ use Rattle.pylex.specs.Streamed.{Continues, IsAhead, Streamed, StreamsIn, Begins
 use Rattle.pylex.specs.Held.{Ahead}
 use Rattle.pylex.proofs.Listing.Ends.{is_whole}
 use Rattle.pylex.proofs.Listers.Moving.{entry_due}
-use Rattle.pylex.proofs.Callers.{is_behind}
+use Rattle.pylex.proofs.Callers.{is_following}
 
 module _ (seen_0 seen_1 seen_2 : Seen) (v w : Streamed) (k : ℕ) (b : Begins seen_0 seen_1 v k) where
   module _ (step : Step) (t : Next seen_1 seen_2 v w (Ok step)) where
@@ -69,10 +69,10 @@ module _ (seen_0 seen_1 seen_2 : Seen) (v w : Streamed) (k : ℕ) (b : Begins se
     }
 
     module _ (no_entry : (e : Entry) → step ≡ steps.Entry e → ⊥) where
-      -- The listing ends before a cursor behind more entries.
+      -- The listing ends before a cursor after more entries.
       never_there : (p : Parts) (c : CursorParts) → k < c.given → slice_get (listing (in_characters p)) k ≡ Some step
           → IsCursorOf c (in_characters p) → ⊥
-      never_there p c less at is = let within = (is_behind is).within in let due =
+      never_there p c less at is = let within = (is_following is).within in let due =
           entry_due (in_characters p) k step (omega arith) at in no_entry due.0 due.1
 
       fault_at : (es : List Entry) (last : Step) (n : ℕ) → slice_get (map steps.Entry es ++ last ∷ []) n ≡ Some step
@@ -167,11 +167,11 @@ misses_shown seen_0 seen_1 v c b other = record {
   misses = λ more broken g.
       let s = b.stands more broken g in
       let count = s.2.stands.count in
-      let shown = is_behind s.2.stands.cursor in
+      let shown = is_following s.2.stands.cursor in
       let within = shown.within in (
         s.0,
         s.1,
-        λ own. other ((is_behind own).is ∙ ap (cursor_of (in_characters s.0)) (sym count) ∙ sym shown.is),
+        λ own. other ((is_following own).is ∙ ap (cursor_of (in_characters s.0)) (sym count) ∙ sym shown.is),
         λ e. absurd (let f : false ≡ true = e in cc),
         λ e ends. let before = ends.before in absurd (omega arith),
       );

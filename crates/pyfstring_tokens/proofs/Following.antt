@@ -1,4 +1,4 @@
--- The first lexeme of a text is that of the text with a right parenthesis behind it, unless it is a
+-- The first lexeme of a text is that of the text with a right parenthesis after it, unless it is a
 -- comment.
 --
 -- Carries: new, next, by Places. On: LastChars, PlainEnds.

@@ -3,7 +3,7 @@ use Rattle.std.specs.Char.{encode_utf8}
 use Rattle.std.specs.Str.Iter.{chars_rest}
 use Rattle.pyparse_tokens.proofs.TextLemmas.{Past, past}
 use Rattle.pyparse_tokens.proofs.IndentLemmas.{none_passed, passes_on, stops_at, stops_at_end}
-use Rattle.pyparse_tokens.proofs.indents.behind_blanks.Goals as goal
+use Rattle.pyparse_tokens.proofs.indents.after_blanks.Goals as goal
 
 pub loop-first-init : goal.loop-first-init
 loop-first-init c = none_passed c.args.text.now c.utf8.text

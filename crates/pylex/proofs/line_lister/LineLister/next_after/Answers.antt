@@ -2,7 +2,7 @@ use Rattle.std.proofs.Common.{ap, ◌∙◌, None}
 use Rattle.std.proofs.lemmas.Result.{err_from_is_err_and}
 use Rattle.pylex.proofs.LineByLine.Steppings.{drop_last, place_held, steps_unread}
 use Rattle.pylex.specs.Streamed.{Streamed}
-use Rattle.pylex.proofs.line_lister.LineLister.next_behind.Goals as goal
+use Rattle.pylex.proofs.line_lister.LineLister.next_after.Goals as goal
 
 pub find-requires-clause-streaming : goal.find-requires-clause-streaming
 find-requires-clause-streaming g c = drop_last c.self.inside.machine c.self.inside.chunk c.self.inside.last c.self.invariant

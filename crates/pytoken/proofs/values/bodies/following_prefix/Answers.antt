@@ -4,7 +4,7 @@ use Rattle.std.specs.Str.{chars}
 use Rattle.std.specs.Str.Iter.{chars_rest}
 use Rattle.pytoken.proofs.Callers.TextLemmas.{Past, past, no_chars}
 use Rattle.pytoken.proofs.values.BodyLemmas.{goes_on, stops_here, stops_at_end}
-use Rattle.pytoken.proofs.values.bodies.behind_prefix.Goals as goal
+use Rattle.pytoken.proofs.values.bodies.following_prefix.Goals as goal
 
 pub prefix-init : goal.prefix-init
 prefix-init c = record { same = refl; utf8 = c.utf8.text }

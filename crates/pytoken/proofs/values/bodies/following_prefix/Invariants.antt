@@ -1,7 +1,7 @@
 use Rattle.std.proofs.Common.{◌≡◌, length}
 use Rattle.std.specs.Str.{chars, IsUtf8}
 use Rattle.pytoken.proofs.values.LiteralLemmas.{after_prefix}
-use Rattle.pytoken.proofs.values.bodies.behind_prefix.Given as goal
+use Rattle.pytoken.proofs.values.bodies.following_prefix.Given as goal
 
 abbrev pub invariant-prefix : goal.invariant-prefix
 invariant-prefix l = record {

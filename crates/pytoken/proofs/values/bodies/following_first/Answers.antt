@@ -1,7 +1,7 @@
 use Rattle.std.proofs.Common.{◌≡◌, ℕ, List, ◌++◌, length, drop, refl, sym, ap, ◌∙◌}
 use Rattle.std.specs.Char.{encode_utf8}
 use Rattle.pytoken.proofs.Callers.TextLemmas.{past, no_chars}
-use Rattle.pytoken.proofs.values.bodies.behind_first.Goals as goal
+use Rattle.pytoken.proofs.values.bodies.following_first.Goals as goal
 
 pub returns-in-Some : goal.returns-in-Some
 returns-in-Some c =

@@ -2,7 +2,7 @@ use Rattle.std.proofs.Common.{◌≡◌, drop}
 use Rattle.std.specs.Str.{chars}
 use denote.Text.{Utf8}
 use denote.Shadow.{shadow}
-use Rattle.pytoken.proofs.values.bodies.behind.Given as goal
+use Rattle.pytoken.proofs.values.bodies.following.Given as goal
 
 abbrev pub invariant-front : goal.invariant-front
 invariant-front l = record {
