@@ -4,7 +4,7 @@ use Rattle.std.specs.Str.{chars, IsUtf8}
 use Rattle.pysource.specs.Limits.{source_limit}
 use Rattle.pysource.specs.Parts.{Parts}
 use Rattle.pylex_listing.specs.declared.entries.Step.{Step}
-use Rattle.pylex.specs.declared.cursor.Shown.{Shown}
+use Rattle.pylex.specs.declared.cursor.CursorPoint.{CursorPoint}
 use Rattle.pylex_listing.specs.declared.leading_char.LeadingChar.TheVariants.{Nothing}
 use Rattle.pylex.specs.declared.line_state.LineState.{LineState}
 use Rattle.pylex_lexeme.specs.Cuts.{begins_significant}
@@ -65,7 +65,7 @@ abbrev pub AwaitsIndent : Listed → Type 0
 AwaitsIndent l = (a : Source) (k : ℕ) → StandsIn l a k → IsIndent (first_step (rest a k))
 
 -- a cursor, by its point, the levels above 0 that are open there, and the entries without text given after it
-abbrev pub shown_by : ℕ → Shown → List ℕ → ℕ → CursorParts
+abbrev pub shown_by : ℕ → CursorPoint → List ℕ → ℕ → CursorParts
 shown_by k p levels skip = record {
   given = k;
   offset = p.offset;

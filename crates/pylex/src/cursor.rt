@@ -73,20 +73,20 @@ pub struct Cursor {
 /// What a cursor says of its point: directly after the last entry with text in the source, or at
 /// its start.
 #[derive(Clone, Copy, Debug, PartialEq, Eq)]
-pub(crate) struct Shown {
+pub(crate) struct CursorPoint {
     pub offset: usize,
     pub row: usize,
     pub depth: usize,
     pub begun: bool,
 }
 
-impl Shown {
+impl CursorPoint {
     /// Directly after an entry.
-    pub(crate) fn at(now: LineState) -> Shown
+    pub(crate) fn at(now: LineState) -> CursorPoint
         ensures { (k : ℕ) (levels : List ℕ)
             → shown_by k result levels 0 ≡ shown_at k (with_levels now (0 ∷ levels)) }
     {
-        Shown {
+        CursorPoint {
             offset: now.now.offset,
             row: now.now.place.row,
             depth: now.depth,
@@ -296,7 +296,7 @@ impl Cursor {
     pub(crate) fn at(
         alloc: Global,
         given: usize,
-        point: Shown,
+        point: CursorPoint,
         levels: &[usize],
         skip: usize,
     ) -> Result<Cursor, AllocError>
@@ -331,12 +331,12 @@ impl Cursor {
     }
 
     /// The cursor's point.
-    pub(crate) fn point(&self) -> Shown
+    pub(crate) fn point(&self) -> CursorPoint
         ensures { (k n : ℕ) (levels : List ℕ)
             → shown_by k result levels n
             ≡ record self.now { given = k; levels = 0 ∷ levels; skip = n } }
     {
-        Shown {
+        CursorPoint {
             offset: self.offset,
             row: self.row,
             depth: self.depth,
@@ -356,7 +356,13 @@ impl Cursor {
     }
 
     /// Whether this is the cursor at a point, by the same parts.
-    pub(crate) fn is_at(&self, given: usize, point: Shown, levels: &[usize], skip: usize) -> bool
+    pub(crate) fn is_at(
+        &self,
+        given: usize,
+        point: CursorPoint,
+        levels: &[usize],
+        skip: usize,
+    ) -> bool
         ensures { IsTrue result ↔ (self.now ≡ shown_by given point levels.now skip) }
     {
         self.given == given

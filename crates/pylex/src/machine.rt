@@ -17,7 +17,7 @@ ghost use Rattle.pylex.specs.Inner.MachineSteps.{StaysAfter, LooksOn, shown_from
 ghost use Rattle.pylex.specs.Inner.LineLayouts.{LaysOut, AwaitsLevel};
 ghost use Rattle.pylex.specs.Inner.LineStarting.{LineStart};
 
-use crate::cursor::{Cursor, Shown};
+use crate::cursor::{Cursor, CursorPoint};
 use crate::ends::end_step;
 use crate::line_state::LineState;
 use crate::peeked::{Indentation, Peeked, entry_on, indentation_for, past_spaces, peek, settle};
@@ -47,7 +47,7 @@ pub struct Machine {
     /// How many entries were given.
     given: usize,
     /// The point of the lister's cursor.
-    point: Shown,
+    point: CursorPoint,
     /// The levels above 0 that are open at the point.
     levels: Vec<usize>,
     /// How far the lister has looked from there: past lexemes that give nothing, and DEDENTs that
@@ -73,7 +73,7 @@ impl Machine {
         let now = LineState::start();
         Machine {
             given: 0,
-            point: Shown::at(now),
+            point: CursorPoint::at(now),
             levels: Vec::new(alloc),
             now,
             nested: 0,
@@ -82,7 +82,7 @@ impl Machine {
     }
 
     /// At the point of a cursor, where nothing after it is looked at.
-    pub(crate) fn at(given: usize, point: Shown, levels: Vec<usize>, line: &str) -> Machine
+    pub(crate) fn at(given: usize, point: CursorPoint, levels: Vec<usize>, line: &str) -> Machine
         requires { length line.now < 2 ^ 62 }
         ensures given { result.given ≡ given }
         ensures point { result.point ≡ point }
@@ -142,7 +142,7 @@ impl Machine {
         ensures nested { self.new.nested ≡ length self.old.levels.items }
         ensures tail { self.new.tail ≡ 0 }
     {
-        let point = Shown {
+        let point = CursorPoint {
             offset: spot.offset,
             row: spot.row,
             depth: spot.depth,
@@ -328,7 +328,7 @@ impl Machine {
             Peeked::Entry(entry) => {
                 self.levels.truncate(self.nested);
                 self.given += 1;
-                self.point = Shown::at(now);
+                self.point = CursorPoint::at(now);
                 self.now = now.begun_anew();
                 Ok(Step::Entry(entry))
             }
@@ -337,7 +337,7 @@ impl Machine {
                 open_level(&mut self.levels, self.nested, now.width)?;
                 let measured = now.measured();
                 self.given += 1;
-                self.point = Shown::at(measured);
+                self.point = CursorPoint::at(measured);
                 self.now = measured.begun_anew();
                 self.nested = self.levels.len();
                 Ok(Step::Entry(entry_of(Kind::Indent, None, now.line, now.now)))

@@ -12,7 +12,7 @@ ghost use Rattle.pygrammar.specs.Looks.{conversion_in, text_in};
 ghost use Rattle.pygrammar.specs.Reader as reader;
 ghost use Rattle.pyparse_nodes.specs.Answers.{Answered, PartAnswered};
 ghost use Rattle.pyparse_nodes.specs.JoinedStates.{gathered, state_of};
-ghost use Rattle.pyparse_nodes.specs.Marks.{conversion_of, points_of};
+ghost use Rattle.pyparse_nodes.specs.Boundaries.{conversion_of, points_of};
 ghost use Rattle.pyparse_nodes.specs.Views.{first_is, seen};
 ghost use Rattle.pyparse_expr.specs.Inner.PlacedStrings.{FieldPlaced, FormattedPlaced, JoinedPlaced};
 ghost use Rattle.pyparse_expr.specs.Inner.PlacedStrings.{PartsPlaced};
@@ -33,9 +33,9 @@ use crate::atoms::read_atom;
 use pygrammar::Level;
 use pylex_listing::Exact;
 use pyparse_nodes::{
-    JoinedValues, LiteralRun, Mark, Optional, Part, Read, Stop, is_mark, is_op, joined_text,
-    literal_at, literal_text, make_field, make_joined, make_literal, moved, part_at, string_run,
-    with_field, with_text,
+    Boundary, FormattedPart, JoinedValues, LiteralRun, Optional, Read, Stop, is_boundary, is_op,
+    joined_text, literal_at, literal_text, make_field, make_joined, make_literal, moved, part_at,
+    string_run, with_field, with_text,
 };
 use pyparse_reads::Depth;
 use pyplaces::Recorder;
@@ -165,7 +165,7 @@ pub(crate) fn read_literals<R: Recorder>(
         Records R.after recorder.old ps recorder.new) }
 {
     let LiteralRun { value, next } = string_run(alloc, tokens, first, at)?;
-    if !is_mark(tokens, next, Mark::FormattedBegin) {
+    if !is_boundary(tokens, next, Boundary::FormattedBegin) {
         recorder.node(from, next)?;
         return make_literal(alloc, value, next);
     }
@@ -240,7 +240,7 @@ fn more_literals<R: Recorder>(
             let next = values.next + 1;
             let text = literal_text(alloc, literal)?;
             values = with_text(values, unicode, text, next)?;
-        } else if is_mark(tokens, values.next, Mark::FormattedBegin) {
+        } else if is_boundary(tokens, values.next, Boundary::FormattedBegin) {
             let next = values.next + 1;
             values = read_formatted(
                 alloc,
@@ -281,7 +281,7 @@ fn read_formatted<R: Recorder>(
         recorder.new) }
 {
     let values = read_parts(alloc, tokens, unicode, before, row, depth, recorder)?;
-    if !is_mark(tokens, values.next, Mark::FormattedEnd) {
+    if !is_boundary(tokens, values.next, Boundary::FormattedEnd) {
         return Err(Stop::NoForm);
     }
     let next = values.next + 1;
@@ -326,7 +326,7 @@ fn with_part<R: Recorder>(
     alloc: Global,
     tokens: &[Terminal],
     unicode: bool,
-    part: Part,
+    part: FormattedPart,
     before: JoinedValues,
     row: Row,
     depth: Depth,
@@ -348,11 +348,11 @@ fn with_part<R: Recorder>(
 {
     let next = before.next + 1;
     match part {
-        Part::Text(text) => {
+        FormattedPart::Text(text) => {
             let points = text.value(alloc)?;
             with_text(before, unicode, points, next)
         }
-        Part::Field(conversion) => {
+        FormattedPart::Field(conversion) => {
             record_text(&before, row, recorder)?;
             let field = read_field(
                 alloc, tokens, unicode, conversion, next, row, depth, recorder,
@@ -394,7 +394,7 @@ fn read_field<R: Recorder>(
     }
     let value = read_atom(alloc, tokens, at, depth.inner(), recorder)?;
     let spec = read_spec(alloc, tokens, unicode, value.next, row, depth, recorder)?;
-    if !is_mark(tokens, spec.next, Mark::FieldEnd) {
+    if !is_boundary(tokens, spec.next, Boundary::FieldEnd) {
         return Err(Stop::NoForm);
     }
     let next = spec.next + 1;
@@ -426,7 +426,7 @@ fn read_spec<R: Recorder>(
         (seen tokens.now r.next) r.next ps ×
         Records R.after recorder.old ps recorder.new) }
 {
-    if !is_mark(tokens, at, Mark::SpecBegin) {
+    if !is_boundary(tokens, at, Boundary::SpecBegin) {
         return Ok(Optional {
             expr: None,
             height: 0,

@@ -2,4 +2,4 @@
 pub mod Here
 pub mod Stands
 pub mod Alone
-pub mod Marks
+pub mod Boundaries

@@ -1,7 +1,7 @@
 pub mod Views
 pub mod Alone
 pub mod Operators
-pub mod Marks
+pub mod Boundaries
 pub mod Inner
 pub mod Answers
 pub mod Runs

@@ -1,7 +1,7 @@
 //! What stands at a place of a list of terminals, why nothing is read there, and nodes of
 //! expressions from their parts, for the readers of expressions and of lines.
 //!
-//! `looks` and `marks` have the tests on the terminal at a place, `operators` the operators by their
+//! `looks` and `boundaries` have the tests on the terminal at a place, `operators` the operators by their
 //! ranks, `stop` why no expression was read, and `height` which nodes are too high.
 //!
 //! `found` has what was read. `makers` and `list_makers` make a node where it is not too high, of
@@ -14,6 +14,7 @@
 #![tactic(auto)]
 
 mod actual;
+mod boundaries;
 mod deletions;
 mod found;
 mod height;
@@ -22,7 +23,6 @@ mod list_makers;
 mod literals;
 mod looks;
 mod makers;
-mod marks;
 mod operators;
 mod parameters;
 mod room;
@@ -32,6 +32,7 @@ mod targets;
 mod turns;
 
 pub use actual::{Actual, ArgumentForm};
+pub use boundaries::{Boundary, FormattedPart, is_boundary, part_at};
 pub use found::{ForClause, ForClauses, Items, JoinedValues, Optional, Pair, Pairs, Read};
 pub use height::above;
 pub use joined::{joined_text, make_field, make_joined, moved, with_field, with_text};
@@ -48,7 +49,6 @@ pub use makers::{
     make_constant, make_if, make_name, make_named, make_number, make_starred, make_subscript,
     make_unary, make_whole, make_yield_from, starred,
 };
-pub use marks::{Mark, Part, is_mark, part_at};
 pub use operators::{Infix, Prefix, comparison_at, infix_at, prefix_at};
 pub use parameters::{Formal, Parameter, Stage, arranged};
 pub use room::{append, put, put_keyword, put_option};

@@ -11,7 +11,7 @@ mod AtomForms
 mod CurlyForms
 mod TrailerForms
 mod StringForms
-mod AimForms
+mod TargetForms
 mod Expressions
 mod PatternLooks
 mod PatternValues

@@ -21,7 +21,7 @@ use std::marker::Model;
 
 /// Where the pieces of a dump stand.
 #[derive(Clone, Copy)]
-enum Stage {
+enum PieceState {
     /// Before all of them.
     Begin,
     /// At a statement, the first of the module or a later one, or after the last.
@@ -37,7 +37,7 @@ enum Stage {
 #[derive(Drop)]
 pub struct PlacedPieces<'a, P: PlaceSource> {
     style: Style,
-    stage: Stage,
+    stage: PieceState,
     /// The statements that are still to come.
     body: &'a [Stmt],
     /// What begins the text.
@@ -108,7 +108,7 @@ impl<'a, P: PlaceSource> PlacedPieces<'a, P> {
         let _ = open(&mut begin, &mut indentation, style, "[")?;
         Ok(PlacedPieces {
             style,
-            stage: Stage::Begin,
+            stage: PieceState::Begin,
             body,
             begin,
             end,
@@ -131,27 +131,27 @@ impl<'a, P: PlaceSource> PlacedPieces<'a, P> {
             × (string_bytes out.new ≡ string_bytes out.old ++ piece)) }
     {
         match self.stage {
-            Stage::Begin => {
+            PieceState::Begin => {
                 out.push_str(self.begin.as_str())?;
-                self.stage = Stage::Statements { first: true };
+                self.stage = PieceState::Statements { first: true };
                 Ok(true)
             }
-            Stage::Statements { first } => {
+            PieceState::Statements { first } => {
                 match self.body.split_first() {
                     Some((s, rest)) => {
                         push_before(out, self.indentation.as_str(), is_flat(self.style), first)?;
                         show_stmt(out, &mut self.indentation, self.style, s, &mut self.places)?;
                         self.body = rest;
-                        self.stage = Stage::Statements { first: false };
+                        self.stage = PieceState::Statements { first: false };
                     }
                     None => {
                         out.push_str(self.end.as_str())?;
-                        self.stage = Stage::Done;
+                        self.stage = PieceState::Done;
                     }
                 }
                 Ok(true)
             }
-            Stage::Done => Ok(false),
+            PieceState::Done => Ok(false),
         }
     }
 }

@@ -28,7 +28,7 @@ use Rattle.pylex_listing.specs.Machine.{State, first_state, remaining, mark_at, 
 use Rattle.pylex.specs.LineState.{with_levels, measured, begun_anew, Stands, HasRoom, IsAscending, Comes, EntryAhead, FaultAhead}
 use Rattle.pylex.specs.LineState.{IndentAhead, DedentAhead, StopAhead, Walks, stays, dedent, is_level}
 use Rattle.pylex.specs.Standing.{standing_by, resumed}
-use Rattle.pylex.specs.declared.cursor.Shown.{Shown}
+use Rattle.pylex.specs.declared.cursor.CursorPoint.{CursorPoint}
 use Rattle.pylex.specs.Listers.{Listed, StandsIn, NextStep, AwaitsIndent, Keeps, IsIn, Passes, shown_at, shown_by}
 use Rattle.pylex_listing.proofs.Callers.{state_of}
 use Rattle.pylex.proofs.Resumption.Ahead.{history_is, placed_first}
@@ -431,7 +431,7 @@ goes_first l p left levels nested tail e keeps z is =
 
 module _ (l : Listed) (p : LineState) (left levels : List ℕ) (nested tail : ℕ) (keeps : Keeps l p left levels nested tail)
     (skips : l.shown.skip ≡ (length levels - nested) + tail) (some : 0 < l.shown.given) where
-  pub goes_entry : (none : tail ≡ 0) (e : Entry) (q r : LineState) (ds ls : List ℕ) (point : Shown)
+  pub goes_entry : (none : tail ≡ 0) (e : Entry) (q r : LineState) (ds ls : List ℕ) (point : CursorPoint)
       → EntryAhead (take nested levels) p (chars left) e q (chars ds) → Stands q ds
       → ((ns : List ℕ) → with_levels r ns ≡ begun_anew (with_levels q ns)) → ((n : ℕ) → HasRoom q n → HasRoom r n)
       → ((k : ℕ) (ms : List ℕ) → shown_by k point ms 0 ≡ shown_at k (with_levels q (0 ∷ ms))) → ls ≡ take nested levels
@@ -454,7 +454,7 @@ module _ (l : Listed) (p : LineState) (left levels : List ℕ) (nested tail : �
             (entry_in l p left levels nested tail keeps skips some none e q (chars ds) h)) anew;
       }
 
-  pub goes_indent : (none : tail ≡ 0) (e : Entry) (q m r : LineState) (ds ls : List ℕ) (count : ℕ) (point : Shown)
+  pub goes_indent : (none : tail ≡ 0) (e : Entry) (q m r : LineState) (ds ls : List ℕ) (count : ℕ) (point : CursorPoint)
       → Comes (take nested levels) p (chars left) q (chars ds) → IndentAhead (take nested levels) q (chars ds)
       → step_of kinds.Indent None q.line q.now ≡ steps.Entry e → Stands q ds
       → ((ns : List ℕ) → with_levels m (pushed q.width ns) ≡ measured (with_levels q ns)) → ((n : ℕ) → HasRoom q n → HasRoom m n)
@@ -568,7 +568,7 @@ no_line : last_line [] ≡ []
 unfolding last_line
 no_line = refl
 
-pub shown_first : (source : Parts) (p : LineState) (point : Shown) (ls : List ℕ) → ls ≡ [] → with_levels p (0 ∷ []) ≡ first_state
+pub shown_first : (source : Parts) (p : LineState) (point : CursorPoint) (ls : List ℕ) → ls ≡ [] → with_levels p (0 ∷ []) ≡ first_state
     → ((k : ℕ) (ms : List ℕ) → shown_by k point ms 0 ≡ shown_at k (with_levels p (0 ∷ ms)))
     → StandsIn (record { source = source; shown = shown_by 0 point ls ((length ls - 0) + 0) }) (in_characters source) 0
 shown_first source p point ls e first at =
@@ -577,7 +577,7 @@ shown_first source p point ls e first at =
     ∙ sym (cursor_start (in_characters source)) in
     subst (λ (c : CursorParts). StandsIn (record { source = source; shown = c }) (in_characters source) 0) (sym shown) (stands_first source)
 
-pub keeps_first : (source : Parts) (p : LineState) (point : Shown) (ls : List ℕ) → IsUtf8 source.text → length source.text ≤ source_limit
+pub keeps_first : (source : Parts) (p : LineState) (point : CursorPoint) (ls : List ℕ) → IsUtf8 source.text → length source.text ≤ source_limit
     → ls ≡ [] → with_levels p (0 ∷ []) ≡ first_state → ((k : ℕ) (ms : List ℕ) → shown_by k point ms 0 ≡ shown_at k (with_levels p (0 ∷ ms)))
     → Keeps (record { source = source; shown = shown_by 0 point ls ((length ls - 0) + 0) }) p source.text ls 0 0
 keeps_first source p point ls utf8 small e first at =

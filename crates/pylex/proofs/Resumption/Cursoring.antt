@@ -119,14 +119,14 @@ after_empty l a k e h n f t =
     }
 
 -- The cursor of a source, by the lexemes before its point.
-pub record CursorPoint (a : Source) (k : ℕ) : Type 0 where
+pub record PointOfCursor (a : Source) (k : ℕ) : Type 0 where
   pub indented : Bool
   pub offset : ℕ
   pub point : PointOf a indented offset
   pub skip : ℕ
   pub is : cursor a k ≡ cursor_at k skip indented point.before
 
-pub cursor_point : (a : Source) (k : ℕ) → CursorPoint a k
+pub cursor_point : (a : Source) (k : ℕ) → PointOfCursor a k
 unfolding cursor
 cursor_point a k =
     let es = given_last_first a k in

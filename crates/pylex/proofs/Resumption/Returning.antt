@@ -9,7 +9,7 @@ use Rattle.std.proofs.lemmas.List.{length-take-le, take-append-drop, length-drop
 use Rattle.std.proofs.lemmas.Str.{chars-append, length-le-encodes, IsUtf8-take, IsUtf8-drop}
 use Rattle.pysource.specs.Limits.{source_limit}
 use Rattle.pysource.specs.Parts.{Parts}
-use Rattle.pylex.specs.declared.cursor.Shown.{Shown}
+use Rattle.pylex.specs.declared.cursor.CursorPoint.{CursorPoint}
 use Rattle.pylex_listing.specs.declared.entries.Entry.{Entry}
 use Rattle.pylex_listing.specs.declared.leading_char.LeadingChar.TheVariants.{Nothing}
 use Rattle.pylex.specs.declared.line_state.LineState.{LineState}
@@ -213,11 +213,11 @@ pub point_boundary : (c : CursorParts) (p : Parts) (text : List ℕ) (offset : �
 point_boundary c p text offset h t u o =
     rw (t, o) (shown_fits (record { source = p; shown = c }) h.0 c.given (subst IsUtf8 t u) (led_stands c p h)).boundary
 
-abbrev pub Tells : Shown → CursorParts → Type 0
+abbrev pub Tells : CursorPoint → CursorParts → Type 0
 Tells point c = (k n : ℕ) (ms : List ℕ) → shown_by k point ms n ≡ record c { given = k; levels = 0 ∷ ms; skip = n }
 
 -- The parts of a cursor at its point.
-pub point_parts : (c : CursorParts) (point : Shown) (given skip nested : ℕ) (ls : List ℕ) → Tells point c → c.levels ≡ 0 ∷ ls
+pub point_parts : (c : CursorParts) (point : CursorPoint) (given skip nested : ℕ) (ls : List ℕ) → Tells point c → c.levels ≡ 0 ∷ ls
     → given ≡ c.given → skip ≡ c.skip → nested ≡ length ls → shown_by (given - skip) point ls ((length ls - nested) + 0) ≡ record c
     { given = c.given - c.skip; skip = 0 }
 point_parts c point given skip nested ls tells levels g s n =
@@ -235,7 +235,7 @@ pub point_led : (c : CursorParts) (p : Parts) (a : Source) → StandsIn (record 
     → StandsIn (record { source = p; shown = record c { given = c.given - c.skip; skip = 0 } }) a (c.given - c.skip)
 point_led c p a h = stands_back (record { source = p; shown = c }) a h
 
-pub keeps_led : (c : CursorParts) (p : Parts) (point : Shown) (given skip nested : ℕ) (ls : List ℕ) (now : LineState)
+pub keeps_led : (c : CursorParts) (p : Parts) (point : CursorPoint) (given skip nested : ℕ) (ls : List ℕ) (now : LineState)
     (text front left line : List ℕ) → (h : LeadsInto c p) → Tells point c → c.levels ≡ 0 ∷ ls → given ≡ c.given → skip ≡ c.skip
     → nested ≡ length ls → text ≡ p.text → IsUtf8 text → length text ≤ source_limit → front ≡ take point.offset text
     → left ≡ drop point.offset text → line ≡ last_line (chars front)

@@ -22,7 +22,7 @@ use Rattle.pylex_listing.specs.declared.kind.Kind.TheVariants as kinds
 use Rattle.pylex_listing.specs.declared.entries.Entry.{Entry}
 use Rattle.pylex_listing.specs.declared.entries.Step.TheVariants as steps
 use Rattle.pylex_listing.specs.declared.point.Point.{Point}
-use Rattle.pylex.specs.declared.cursor.Shown.{Shown}
+use Rattle.pylex.specs.declared.cursor.CursorPoint.{CursorPoint}
 use Rattle.pylex.specs.declared.line_state.LineState.{LineState}
 use Rattle.pylex.specs.declared.spots.Spot.{Spot}
 use Rattle.pylex.specs.Cursors.{CursorParts}
@@ -133,7 +133,7 @@ anew_line q = record {
   lead = q.lead;
 }
 
-abbrev pub point_of : LineState → Shown
+abbrev pub point_of : LineState → CursorPoint
 point_of q = record { offset = q.now.offset; row = q.now.place.row; depth = q.depth; begun = q.logical }
 
 pub room_anew : (q : LineState) (n : ℕ) → HasRoom q n → HasRoom (anew_line q) n

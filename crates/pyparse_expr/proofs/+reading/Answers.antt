@@ -83,7 +83,7 @@ use Rattle.pyparse_expr.proofs.Recorders.Strings.{row_ended, parts_none, parts_t
 use Rattle.pyparse_expr.proofs.Recorders.Strings.{literal_placed, string_placed, joined_placed, whole_field, spec_none, spec_placed}
 use Rattle.pyparse_expr.proofs.Recorders.Strings.{formatted_first, literals_alone, literals_first, lowered_placed}
 use Rattle.pyparse_nodes.specs.JoinedStates.{state}
-use Rattle.pyparse_nodes.specs.Marks.{conversion_of, points_of}
+use Rattle.pyparse_nodes.specs.Boundaries.{conversion_of, points_of}
 use Rattle.pyplaces.specs.Stretches.{stretch}
 use Rattle.pyplaces.proofs.Asides.{Apart, Still}
 use Rattle.pyparse_expr.specs.declared.listings.Item.TheVariants as item
@@ -1694,7 +1694,7 @@ strings::more_literals-more-preserved-in-Some g t c = record {
 pub strings::more_literals-returns-in_err-values-2-clause-parts : goal.strings::more_literals-returns-in_err-values-2-clause-parts
 strings::more_literals-returns-in_err-values-2-clause-parts g t c = λ acc g.
     let f = formatted_error c.args.tokens.now c.args.depth c.args.unicode _ c.more.values (c.more.invariant.is acc g) c.moved.result
-    c.if-is_mark.ensures c.moved.ensures c.in_err-values-2.field-0.0 c.in_err-values-2.ensures.parts in
+    c.if-is_boundary.ensures c.moved.ensures c.in_err-values-2.field-0.0 c.in_err-values-2.ensures.parts in
     search (rules, f)
 
 pub strings::more_literals-more-preserved : goal.strings::more_literals-more-preserved
@@ -1702,15 +1702,15 @@ strings::more_literals-more-preserved g t c = record {
   ahead = omega (arith, c.more.invariant.ahead, c.moved.ensures.next_is, c.in_ok-values-2.ensures.place.ahead);
   within = c.in_ok-values-2.ensures.place.within;
   is = λ acc g. formatted_more c.args.tokens.now c.args.depth c.args.unicode _ c.more.values (c.more.invariant.is acc g) c.moved.result
-      c.if-is_mark.ensures c.moved.ensures c.in_ok-values-2.values c.in_ok-values-2.ensures.parts;
+      c.if-is_boundary.ensures c.moved.ensures c.in_ok-values-2.values c.in_ok-values-2.ensures.parts;
   placed = λ whole a. parts_then c.args.tokens.now c.args.unicode whole c.args.before c.more.values c.in_ok-values-2.values
       (c.more.invariant.placed whole a) (string_placed c.args.tokens.now c.args.unicode whole c.more.values c.moved.result
-      c.in_ok-values-2.values c.if-is_mark.ensures c.moved.ensures (c.in_ok-values-2.ensures.placed whole a));
+      c.in_ok-values-2.values c.if-is_boundary.ensures c.moved.ensures (c.in_ok-values-2.ensures.placed whole a));
 }
 
-pub strings::more_literals-returns-else-is_mark-clause-parts : goal.strings::more_literals-returns-else-is_mark-clause-parts
-strings::more_literals-returns-else-is_mark-clause-parts g t c = λ acc g. literals_end c.args.tokens.now c.args.depth c.args.unicode _
-    c.more.values (c.more.invariant.is acc g) c.args.before.next c.more.invariant.ahead c.in_default.ensures.is c.if-is_mark.ensures
+pub strings::more_literals-returns-else-is_boundary-clause-parts : goal.strings::more_literals-returns-else-is_boundary-clause-parts
+strings::more_literals-returns-else-is_boundary-clause-parts g t c = λ acc g. literals_end c.args.tokens.now c.args.depth c.args.unicode _
+    c.more.values (c.more.invariant.is acc g) c.args.before.next c.more.invariant.ahead c.in_default.ensures.is c.if-is_boundary.ensures
 
 pub strings::more_literals-more-init : goal.strings::more_literals-more-init
 strings::more_literals-more-init g t c = record {
@@ -1720,15 +1720,15 @@ strings::more_literals-more-init g t c = record {
   placed = λ whole a. parts_none c.args.tokens.now c.args.unicode whole c.args.before _;
 }
 
-pub strings::more_literals-returns-else-is_mark-clause-placed : goal.strings::more_literals-returns-else-is_mark-clause-placed
-strings::more_literals-returns-else-is_mark-clause-placed g t c = c.more.invariant.placed
+pub strings::more_literals-returns-else-is_boundary-clause-placed : goal.strings::more_literals-returns-else-is_boundary-clause-placed
+strings::more_literals-returns-else-is_boundary-clause-placed g t c = c.more.invariant.placed
 
-pub strings::more_literals-returns-else-is_mark-clause-ended : goal.strings::more_literals-returns-else-is_mark-clause-ended
-strings::more_literals-returns-else-is_mark-clause-ended g t c = row_ended _ c.in_default.ensures.is c.if-is_mark.ensures
+pub strings::more_literals-returns-else-is_boundary-clause-ended : goal.strings::more_literals-returns-else-is_boundary-clause-ended
+strings::more_literals-returns-else-is_boundary-clause-ended g t c = row_ended _ c.in_default.ensures.is c.if-is_boundary.ensures
 
 pub strings::read_formatted-returns-clause-placed : goal.strings::read_formatted-returns-clause-placed
 strings::read_formatted-returns-clause-placed g t c = λ whole a. formatted_placed c.args.tokens.now c.args.unicode whole
-    c.args.before c.in_ok-values.values c.moved.result (c.in_ok-values.ensures.placed whole a) c.if-not-is_mark.ensures c.moved.ensures
+    c.args.before c.in_ok-values.values c.moved.result (c.in_ok-values.ensures.placed whole a) c.if-not-is_boundary.ensures c.moved.ensures
 
 pub strings::read_field-returns-in_err-spec-clause-is : goal.strings::read_field-returns-in_err-spec-clause-is
 strings::read_field-returns-in_err-spec-clause-is g t c = λ most le.
@@ -1740,13 +1740,13 @@ strings::read_field-returns-in_err-spec-clause-is g t c = λ most le.
     (omega (arith, c.in_ok-value.ensures.answered.ahead)))) in
     search (rules, f)
 
-pub strings::read_field-returns-then-not-is_mark-clause-is : goal.strings::read_field-returns-then-not-is_mark-clause-is
-strings::read_field-returns-then-not-is_mark-clause-is g t c = λ most le.
+pub strings::read_field-returns-then-not-is_boundary-clause-is : goal.strings::read_field-returns-then-not-is_boundary-clause-is
+strings::read_field-returns-then-not-is_boundary-clause-is g t c = λ most le.
     let v = inner_found c.args.tokens.now _ c.args.depth c.inner.result _ _ c.in_ok-value.value c.inner.ensures.steps c.inner.ensures.room
     c.in_ok-value.ensures.answered in
     field_open c.args.tokens.now c.args.depth c.args.unicode most c.args.conversion c.args.at c.if-not-is_op.ensures _ c.in_ok-value.value v
     c.in_ok-spec.spec (c.in_ok-spec.ensures.is most (further c.args.tokens.now c.args.at c.in_ok-value.value.next most le
-    (omega (arith, c.in_ok-value.ensures.answered.ahead)))) c.if-not-is_mark.ensures
+    (omega (arith, c.in_ok-value.ensures.answered.ahead)))) c.if-not-is_boundary.ensures
 
 pub strings::read_field-returns-clause-is : goal.strings::read_field-returns-clause-is
 strings::read_field-returns-clause-is g t c = λ most le.
@@ -1754,7 +1754,7 @@ strings::read_field-returns-clause-is g t c = λ most le.
     c.in_ok-value.ensures.answered in
     field_made c.args.tokens.now c.args.depth c.args.unicode most c.args.conversion c.args.at c.if-not-is_op.ensures _ c.in_ok-value.value v
     c.in_ok-spec.spec (c.in_ok-spec.ensures.is most (further c.args.tokens.now c.args.at c.in_ok-value.value.next most le
-    (omega (arith, c.in_ok-value.ensures.answered.ahead)))) c.make_field.result c.if-not-is_mark.ensures c.make_field.ensures
+    (omega (arith, c.in_ok-value.ensures.answered.ahead)))) c.make_field.result c.if-not-is_boundary.ensures c.make_field.ensures
 
 pub strings::read_field-returns-clause-placed : goal.strings::read_field-returns-clause-placed
 strings::read_field-returns-clause-placed g t c = λ whole a.
@@ -1762,7 +1762,7 @@ strings::read_field-returns-clause-placed g t c = λ whole a.
     let q = c.in_ok-spec.ensures.placed whole a in
     MatchResult-weaker c.make_field.result c.make_field.ensures
     (λ r k. whole_field c.args.tokens.now c.args.unicode c.args.conversion whole c.args.at
-    c.in_ok-value.value c.in_ok-spec.spec r c.if-not-is_op.ensures p.1 p.2 q.1 q.2 c.if-not-is_mark.ensures k) (λ y _. tt)
+    c.in_ok-value.value c.in_ok-spec.spec r c.if-not-is_op.ensures p.1 p.2 q.1 q.2 c.if-not-is_boundary.ensures k) (λ y _. tt)
 
 pub strings::read_joined-returns-clause-answered : goal.strings::read_joined-returns-clause-answered
 strings::read_joined-returns-clause-answered g t c = λ acc g. joined_made c.args.tokens.now c.args.depth
@@ -1786,21 +1786,21 @@ pub strings::read_literals-returns-in-Text-clause-answered : goal.strings::read_
 strings::read_literals-returns-in-Text-clause-answered g t c = texts_joined c.args.tokens.now (inner_reads c.args.depth) _
     c.args.at _ _ c.in-Text.points
     c.in-Text.unicode c.joined_text-before.result c.read_joined.result (ap literal_value c.in-Text.is) c.joined_text-before.ensures.values
-    c.joined_text-before.ensures.next c.in_ok-value.ensures c.if-not-is_mark.ensures c.read_joined.ensures.answered
+    c.joined_text-before.ensures.next c.in_ok-value.ensures c.if-not-is_boundary.ensures c.read_joined.ensures.answered
 
 pub strings::read_literals-returns-in-Bytes-clause-answered : goal.strings::read_literals-returns-in-Bytes-clause-answered
 strings::read_literals-returns-in-Bytes-clause-answered g t c = bytes_wrong c.args.tokens.now (inner_reads c.args.depth) _ c.args.at _ _
-    c.in-Bytes._bytes.items (ap literal_value c.in-Bytes.is) c.in_ok-value.ensures c.if-not-is_mark.ensures
+    c.in-Bytes._bytes.items (ap literal_value c.in-Bytes.is) c.in_ok-value.ensures c.if-not-is_boundary.ensures
 
-pub strings::read_literals-returns-then-not-is_mark-clause-placed : goal.strings::read_literals-returns-then-not-is_mark-clause-placed
-strings::read_literals-returns-then-not-is_mark-clause-placed g t c = λ w. MatchResult-weaker c.make_literal.result c.make_literal.ensures
+pub strings::read_literals-returns-then-not-is_boundary-clause-placed : goal.strings::read_literals-returns-then-not-is_boundary-clause-placed
+strings::read_literals-returns-then-not-is_boundary-clause-placed g t c = λ w. MatchResult-weaker c.make_literal.result c.make_literal.ensures
     (λ r m. literals_alone
     c.args.tokens.now _ _ c.args.from c.args.at _ _ r c.in_ok-value.ensures c.in_ok-node.ensures m w) (λ y _. tt)
 
 pub strings::read_literals-returns-in-Text-clause-placed : goal.strings::read_literals-returns-in-Text-clause-placed
 strings::read_literals-returns-in-Text-clause-placed g t c = λ w. IfOk-weaker c.read_joined.result _ _ (λ r k. literals_first
     c.args.tokens.now _ _ c.args.from c.args.at _ c.in-Text.points c.in-Text.unicode c.joined_text-before.result r c.in_ok-value.ensures
-    (ap literal_value c.in-Text.is) c.if-not-is_mark.ensures c.joined_text-before.ensures.values c.joined_text-before.ensures.next w k)
+    (ap literal_value c.in-Text.is) c.if-not-is_boundary.ensures c.joined_text-before.ensures.values c.joined_text-before.ensures.next w k)
     c.read_joined.ensures.placed
 
 pub strings::string_atom-returns-clause-placed : goal.strings::string_atom-returns-clause-placed
@@ -1845,8 +1845,8 @@ strings::read_parts-parts-init g t c = record {
 pub strings::read_parts-returns-clause-placed : goal.strings::read_parts-returns-clause-placed
 strings::read_parts-returns-clause-placed g t c = c.parts.invariant.placed
 
-pub strings::read_spec-returns-then-not-is_mark-clause-placed : goal.strings::read_spec-returns-then-not-is_mark-clause-placed
-strings::read_spec-returns-then-not-is_mark-clause-placed g t c = λ whole a. (
+pub strings::read_spec-returns-then-not-is_boundary-clause-placed : goal.strings::read_spec-returns-then-not-is_boundary-clause-placed
+strings::read_spec-returns-then-not-is_boundary-clause-placed g t c = λ whole a. (
   [],
   spec_none c.args.tokens.now c.args.unicode whole c.args.at,
   records_none,
@@ -1854,7 +1854,7 @@ strings::read_spec-returns-then-not-is_mark-clause-placed g t c = λ whole a. (
 
 pub strings::read_spec-returns-clause-placed : goal.strings::read_spec-returns-clause-placed
 strings::read_spec-returns-clause-placed g t c = λ whole a. spec_placed c.args.tokens.now c.args.unicode whole c.args.at
-    c.joined_text-before.result c.in_ok-values.values c.in_ok-read.read c.if-not-is_mark.ensures
+    c.joined_text-before.result c.in_ok-values.values c.in_ok-read.read c.if-not-is_boundary.ensures
     (c.joined_text-before.ensures.values ∙ ap (λ z. state [] z) c.new.ensures) c.joined_text-before.ensures.next
     (c.in_ok-values.ensures.placed whole a) (c.in_ok-record_joined.ensures whole a) c.in_ok-read.ensures
 
@@ -1875,7 +1875,7 @@ strings::with_part-returns-in_ok-node-in-Field-clause-placed g t c =
 
 pub strings::read_spec-returns-clause-is : goal.strings::read_spec-returns-clause-is
 strings::read_spec-returns-clause-is g t c = λ most le. spec_made c.args.tokens.now c.args.depth c.args.unicode most c.args.at
-    c.if-not-is_mark.ensures c.in_ok-values.values c.in_ok-read.read (parts_found c.args.tokens.now (inner_reads c.args.depth)
+    c.if-not-is_boundary.ensures c.in_ok-values.values c.in_ok-read.read (parts_found c.args.tokens.now (inner_reads c.args.depth)
     c.args.unicode (c.args.at + 1) c.joined_text-before.result c.new.result c.joined_text-before.ensures.next
     c.joined_text-before.ensures.values c.new.ensures most (further c.args.tokens.now c.args.at (c.args.at + 1) most le (omega arith))
     c.in_ok-values.values c.in_ok-values.ensures.parts) c.in_ok-read.ensures

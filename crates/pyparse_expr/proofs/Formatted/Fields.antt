@@ -21,8 +21,8 @@ use Rattle.pygrammar.specs.Reader.{Answer, Found, NoForm, and_then, on_first, fi
 use Rattle.pyparse_nodes.specs.declared.found.Optional.{Optional}
 use Rattle.pyparse_nodes.specs.declared.found.Read.{Read}
 use Rattle.pyparse_nodes.specs.declared.found.JoinedValues.{JoinedValues}
-use Rattle.pyparse_nodes.specs.declared.marks.Part.{Part}
-use Rattle.pyparse_nodes.specs.declared.marks.Part.TheVariants as part
+use Rattle.pyparse_nodes.specs.declared.boundaries.FormattedPart.{FormattedPart}
+use Rattle.pyparse_nodes.specs.declared.boundaries.FormattedPart.TheVariants as part
 use Rattle.pyparse_nodes.specs.declared.stop.Stop.{Stop}
 use Rattle.pyparse_nodes.specs.declared.stop.Stop.TheVariants as stop
 use Rattle.pyparse_nodes.specs.Answers.{Answered, Failed, FoundAt, PartAt, PartAnswered}
@@ -73,7 +73,7 @@ module _ (ts : List given.Terminal) (d : Depth) (u : Bool) (most : ℕ) where
       }
       field_added r (Err s) f g = rw g tt
 
-      pub field_put : (p : Part) (r : Read) (z : Result JoinedValues Stop) → p ≡ part.Field c
+      pub field_put : (p : FormattedPart) (r : Read) (z : Result JoinedValues Stop) → p ≡ part.Field c
           → PartAt ts (before.next + 1) field (tree_of r.expr.value) r.next
           → MatchResult z (λ j. Gathers (step u (state_of before) (Field (tree_of r.expr.value))) r.next j) (λ s. s ≡ stop.Memory)
           → PartAdded u ts (before.next + 1) before (part_reads (inner_reads d) u most p (seen ts (before.next + 1))) z

@@ -17,13 +17,13 @@ use Rattle.pygrammar.specs.Reader.{Answer, Found, NoForm, TooDeep, Reads, and_th
 use Rattle.pygrammar.specs.Reader.{formatted_step, literals_loop, joined_step}
 use Rattle.pyparse_nodes.specs.declared.found.Read.{Read}
 use Rattle.pyparse_nodes.specs.declared.found.JoinedValues.{JoinedValues}
-use Rattle.pyparse_nodes.specs.declared.marks.Part.{Part}
-use Rattle.pyparse_nodes.specs.declared.marks.Part.TheVariants as part
+use Rattle.pyparse_nodes.specs.declared.boundaries.FormattedPart.{FormattedPart}
+use Rattle.pyparse_nodes.specs.declared.boundaries.FormattedPart.TheVariants as part
 use Rattle.pyparse_nodes.specs.declared.stop.Stop.{Stop}
 use Rattle.pyparse_nodes.specs.declared.stop.Stop.TheVariants as stop
 use Rattle.pyparse_nodes.specs.Answers.{Failed, PartAnswered}
 use Rattle.pyparse_nodes.specs.JoinedStates.{Gathers, IsNode, ended, gathered, state, state_of, step}
-use Rattle.pyparse_nodes.specs.Marks.{conversion_of, points_of}
+use Rattle.pyparse_nodes.specs.Boundaries.{conversion_of, points_of}
 use Rattle.pyparse_nodes.specs.Runs.{IsNoText}
 use Rattle.pyparse_nodes.specs.Views.{Stands, seen, first_is}
 use Rattle.pyparse_reads.specs.declared.depth.Depth.{Depth}
@@ -43,7 +43,7 @@ module _ (self : Reads) (u : Bool) where
   field_turn m acc TooDeep = refl
   field_turn m acc (Found e s) = refl
 
-  part_turn : (p : Part) (m : ℕ) (acc : List StringPart) (r : List Terminal) → points_of (Some p) ≡ first_is text_in r
+  part_turn : (p : FormattedPart) (m : ℕ) (acc : List StringPart) (r : List Terminal) → points_of (Some p) ≡ first_is text_in r
       → conversion_of (Some p) ≡ first_is conversion_in r → parts_loop self u (suc m) acc r ≡ and_then (part_reads self u m p (drop 1 r))
       (λ q s. parts_loop self u m (acc ++ (q ∷ [])) s)
   part_turn (part.Text p) m acc r h k = first_hit text_in r (text_points (text_part p)) _ _ h
@@ -110,7 +110,7 @@ module _ (ts : List given.Terminal) (d : Depth) (u : Bool) where
         gives = c.gives;
       }
 
-      module _ (p : Part) (w : j.next < length ts) (h : points_of (Some p) ≡ first_is text_in (seen ts j.next))
+      module _ (p : FormattedPart) (w : j.next < length ts) (h : points_of (Some p) ≡ first_is text_in (seen ts j.next))
           (k : conversion_of (Some p) ≡ first_is conversion_in (seen ts j.next)) where
         turned : (m : ℕ) → length (seen ts j.next) ≤ suc m → x ≡ parts_loop (inner_reads d) u (suc m) c.parts (seen ts j.next)
             → x ≡ and_then (part_reads (inner_reads d) u m p (seen ts (j.next + 1)))

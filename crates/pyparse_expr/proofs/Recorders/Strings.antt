@@ -29,11 +29,11 @@ use Rattle.pygrammar.proofs.Callers.Strings.{text_is, field_is, literal_is, valu
 use Rattle.pyparse_nodes.specs.declared.found.JoinedValues.{JoinedValues}
 use Rattle.pyparse_nodes.specs.declared.found.Optional.{Optional}
 use Rattle.pyparse_nodes.specs.declared.found.Read.{Read}
-use Rattle.pyparse_nodes.specs.declared.marks.Part.TheVariants as part
+use Rattle.pyparse_nodes.specs.declared.boundaries.FormattedPart.TheVariants as part
 use Rattle.pyparse_nodes.specs.declared.stop.Stop.{Stop}
 use Rattle.pyparse_nodes.specs.Answers.{Made, PartAt}
 use Rattle.pyparse_nodes.specs.JoinedStates.{Gathers, IsNode, state, ended, gathered, state_of, step, steps}
-use Rattle.pyparse_nodes.specs.Marks.{conversion_of, points_of}
+use Rattle.pyparse_nodes.specs.Boundaries.{conversion_of, points_of}
 use Rattle.pyparse_nodes.specs.Runs.{run}
 use Rattle.pyparse_nodes.specs.Views.{Stands, seen, first_is}
 use Rattle.pyparse_expr.specs.Inner.PlacedStrings.{RowGrows, PartsPlaced, FormattedPlaced, FieldPlaced, JoinedPlaced}

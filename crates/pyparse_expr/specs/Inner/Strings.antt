@@ -8,8 +8,8 @@ use Rattle.pygrammar.specs.FormattedStrings.{StringPart, Text, Field}
 use Rattle.pygrammar.specs.Reader.{Answer, Found, Reads, and_then, field_with, parts_loop}
 use Rattle.pyparse_nodes.specs.declared.found.Read.{Read}
 use Rattle.pyparse_nodes.specs.declared.found.JoinedValues.{JoinedValues}
-use Rattle.pyparse_nodes.specs.declared.marks.Part.{Part}
-use Rattle.pyparse_nodes.specs.declared.marks.Part.TheVariants as part
+use Rattle.pyparse_nodes.specs.declared.boundaries.FormattedPart.{FormattedPart}
+use Rattle.pyparse_nodes.specs.declared.boundaries.FormattedPart.TheVariants as part
 use Rattle.pyparse_nodes.specs.declared.stop.Stop.{Stop}
 use Rattle.pyparse_nodes.specs.declared.stop.Stop.TheVariants as stop
 use Rattle.pyparse_nodes.specs.Answers.{Failed}
@@ -40,7 +40,7 @@ abbrev pub PartsAnswered : Bool → List Terminal → (least : ℕ) → Answer (
 PartsAnswered u ts least x z = MatchResult z (λ j. PartsAt u ts least x j) (λ s. Failed s x)
 
 -- one part, from after its first terminal on; and its value after others
-abbrev pub part_reads : Reads → Bool → ℕ → Part → List tokens.Terminal → Answer StringPart
+abbrev pub part_reads : Reads → Bool → ℕ → FormattedPart → List tokens.Terminal → Answer StringPart
 part_reads self u most (part.Text p) r = Found (Text (text_points (text_part p))) r
 part_reads self u most (part.Field c) r = and_then (field_with self (λ i. parts_loop self u most [] i) u c r) (λ e s. Found (Field e) s)
 

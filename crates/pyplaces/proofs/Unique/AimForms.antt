@@ -21,30 +21,30 @@ use Rattle.pyplaces.specs.EntryPlaces as E
 use Rattle.pyplaces.specs.EntryPlaces.{EntryPlaces}
 use Rattle.pyplaces.specs.Inner.Looks.{lead_of}
 use Rattle.pyplaces.proofs.Unique.Levels.{Reads, answers}
-use Rattle.pyplaces.proofs.Unique.Answered.{AimAt, Good, no_aim}
-use Rattle.pyplaces.proofs.Unique.Clauses.{plain_aim, star_aim, lone_aim, AimsRead, no_aims, last_aim, more_aims, tuple_aim, mapped_some}
+use Rattle.pyplaces.proofs.Unique.Answered.{ATargetAt, Good, no_lone_target}
+use Rattle.pyplaces.proofs.Unique.Clauses.{plain_target, starred_target, lone_target, TargetListRead, no_targets, last_of_targets, more_target_list, tuple_target, mapped_some}
 use Rattle.pyplaces.proofs.Unique.Clauses.{starred_stored}
 
-next_aim : (l : Level) (ts : List Terminal) (e : Expr) (f : ℕ → List Stretch) → first (below l) ≤ lead_of ts → Reads l ts f
-    → ((s : Expr) → stored e ≡ Some s → AimAt (below l) ts f) → (s : Expr) → stored e ≡ Some s → AimAt l ts f
-next_aim Value ts e f l r g s h = tt
-next_aim Stars ts e f l r g s h = lone_aim ts f (g s h)
-next_aim StarItem ts e f l r g s h = plain_aim ts f (omega (arith, l)) (g s h)
-next_aim Primary ts e f l r g s h = λ at rest k w. answers Primary ts f r at rest k w
-next_aim Elem ts e f l r g s h = tt
-next_aim Named ts e f l r g s h = tt
-next_aim Slices ts e f l r g s h = tt
-next_aim Part ts e f l r g s h = tt
-next_aim Slice ts e f l r g s h = tt
-next_aim Subject ts e f l r g s h = tt
-next_aim _ ts e f l r g s h = g s h
+next_target : (l : Level) (ts : List Terminal) (e : Expr) (f : ℕ → List Stretch) → first (below l) ≤ lead_of ts → Reads l ts f
+    → ((s : Expr) → stored e ≡ Some s → ATargetAt (below l) ts f) → (s : Expr) → stored e ≡ Some s → ATargetAt l ts f
+next_target Value ts e f l r g s h = tt
+next_target Stars ts e f l r g s h = lone_target ts f (g s h)
+next_target StarItem ts e f l r g s h = plain_target ts f (omega (arith, l)) (g s h)
+next_target Primary ts e f l r g s h = λ at rest k w. answers Primary ts f r at rest k w
+next_target Elem ts e f l r g s h = tt
+next_target Named ts e f l r g s h = tt
+next_target Slices ts e f l r g s h = tt
+next_target Part ts e f l r g s h = tt
+next_target Slice ts e f l r g s h = tt
+next_target Subject ts e f l r g s h = tt
+next_target _ ts e f l r g s h = g s h
 
 pub next_good : (l : Level) (ts : List Terminal) (e : Expr) (f : ℕ → List Stretch) → first (below l) ≤ lead_of ts → Reads l ts f
     → Good (below l) ts e f → Good l ts e f
-next_good l ts e f w r g = (r, next_aim l ts e f w r g.1)
+next_good l ts e f w r g = (r, next_target l ts e f w r g.1)
 
 pub no_target : (l : Level) (ts : List Terminal) (e : Expr) (f : ℕ → List Stretch) → stored e ≡ None → Reads l ts f → Good l ts e f
-no_target l ts e f h r = (r, no_aim l ts e f h)
+no_target l ts e f h r = (r, no_lone_target l ts e f h)
 
 pub primary : (ts : List Terminal) (e : Expr) (f : ℕ → List Stretch) → Reads Primary ts f → Good Primary ts e f
 primary ts e f r = (r, λ s h at rest k w. answers Primary ts f r at rest k w)
@@ -52,17 +52,17 @@ primary ts e f r = (r, λ s h at rest k w. answers Primary ts f r at rest k w)
 pub star_item_good : (ts : List Terminal) (e : Expr) (f : ℕ → List Stretch)
     → Reads StarItem (Op Star ∷ ts) (λ at. f (1 + at) ++ over at (1 + length ts)) → Good BitOr ts e f
     → Good StarItem (Op Star ∷ ts) (Trees.Starred e Load) (λ at. f (1 + at) ++ over at (1 + length ts))
-star_item_good ts e f r g = (r, λ s h. let w = starred_stored e s h in star_aim ts f (g.1 w.0 w.1))
+star_item_good ts e f r g = (r, λ s h. let w = starred_stored e s h in starred_target ts f (g.1 w.0 w.1))
 
 -- ---- Lists.
 
-abbrev pub ListAim : Item → List Terminal → (ℕ → List EntryPlaces) → Type 0
-ListAim (Of StarItem) ts g = AimsRead ts g
-ListAim i ts g = Unit {0}
+abbrev pub ListTarget : Item → List Terminal → (ℕ → List EntryPlaces) → Type 0
+ListTarget (Of StarItem) ts g = TargetListRead ts g
+ListTarget i ts g = Unit {0}
 
 pub star_tuple_good : (ts us : List Terminal) (e : Expr) (es : List Entry) (f : ℕ → List Stretch) (g : ℕ → List EntryPlaces)
     → Reads Stars (ts ++ (Op Comma ∷ us)) (λ at. f at ++ (E.singles (g (at + (length ts + 1))) ++ over at (length ts + (1 + length us))))
-    → Good StarItem ts e f → ((z : Exprs) → all_stored (singles es) ≡ Some z → ListAim (Of StarItem) us g)
+    → Good StarItem ts e f → ((z : Exprs) → all_stored (singles es) ≡ Some z → ListTarget (Of StarItem) us g)
     → Good Stars (ts ++ (Op Comma ∷ us)) (Trees.Tuple (an_expr e (singles es)) Load)
     (λ at. f at ++ (E.singles (g (at + (length ts + 1))) ++ over at (length ts + (1 + length us))))
 star_tuple_good ts us e es f g r p c = (
@@ -70,25 +70,25 @@ star_tuple_good ts us e es f g r p c = (
   λ s h.
       let v = mapped_some _ (both (stored e) (all_stored (singles es))) s h in
       let w = both_some (stored e) (all_stored (singles es)) v.0 v.1 in
-      tuple_aim ts us f g (p.1 w.0.0 w.0.1) (c w.1.0 w.1.1),
+      tuple_target ts us f g (p.1 w.0.0 w.0.1) (c w.1.0 w.1.1),
 )
 
-pub none_aimed : (i : Item) → ListAim i [] (λ at. [])
-none_aimed (Of StarItem) = no_aims
-none_aimed _ = tt
+pub none_targeted : (i : Item) → ListTarget i [] (λ at. [])
+none_targeted (Of StarItem) = no_targets
+none_targeted _ = tt
 
-pub last_aimed : (l : Level) (ts : List Terminal) (e : Expr) (f : ℕ → List Stretch) → first l ≤ lead_of ts → Good l ts e f
-    → (z : Exprs) → all_stored (singles (Single e ∷ [])) ≡ Some z → ListAim (Of l) ts (λ at. E.Single (f at) ∷ [])
-last_aimed StarItem ts e f l p z h =
+pub last_targeted : (l : Level) (ts : List Terminal) (e : Expr) (f : ℕ → List Stretch) → first l ≤ lead_of ts → Good l ts e f
+    → (z : Exprs) → all_stored (singles (Single e ∷ [])) ≡ Some z → ListTarget (Of l) ts (λ at. E.Single (f at) ∷ [])
+last_targeted StarItem ts e f l p z h =
     let w = both_some (stored e) (Some no_exprs) z h in
-    last_aim ts f (omega (arith, l)) (p.1 w.0.0 w.0.1)
-last_aimed _ ts e f l p z h = tt
+    last_of_targets ts f (omega (arith, l)) (p.1 w.0.0 w.0.1)
+last_targeted _ ts e f l p z h = tt
 
-pub more_aimed : (l : Level) (ts us : List Terminal) (e : Expr) (es : List Entry) (f : ℕ → List Stretch) (g : ℕ → List EntryPlaces)
-    → first l ≤ lead_of ts → Good l ts e f → ((z : Exprs) → all_stored (singles es) ≡ Some z → ListAim (Of l) us g)
+pub more_targeted : (l : Level) (ts us : List Terminal) (e : Expr) (es : List Entry) (f : ℕ → List Stretch) (g : ℕ → List EntryPlaces)
+    → first l ≤ lead_of ts → Good l ts e f → ((z : Exprs) → all_stored (singles es) ≡ Some z → ListTarget (Of l) us g)
     → (z : Exprs) → all_stored (singles (Single e ∷ es)) ≡ Some z
-    → ListAim (Of l) (ts ++ (Op Comma ∷ us)) (λ at. E.Single (f at) ∷ g (at + (length ts + 1)))
-more_aimed StarItem ts us e es f g l p c z h =
+    → ListTarget (Of l) (ts ++ (Op Comma ∷ us)) (λ at. E.Single (f at) ∷ g (at + (length ts + 1)))
+more_targeted StarItem ts us e es f g l p c z h =
     let w = both_some (stored e) (all_stored (singles es)) z h in
-    more_aims ts us f g (omega (arith, l)) (p.1 w.0.0 w.0.1) (c w.1.0 w.1.1)
-more_aimed _ ts us e es f g l p c z h = tt
+    more_target_list ts us f g (omega (arith, l)) (p.1 w.0.0 w.0.1) (c w.1.0 w.1.1)
+more_targeted _ ts us e es f g l p c z h = tt

@@ -1,6 +1,6 @@
 -- That a question is answered in front of what may follow.
 --
--- Carries: Answers, counted, shaped, AimAt, Good, no_aim and what stops each question, for all below. On: Leading, Levels.
+-- Carries: Answers, counted, shaped, ATargetAt, Good, no_lone_target and what stops each question, for all below. On: Leading, Levels.
 use Rattle.std.proofs.Common.{◌≡◌, ap, ℕ, ◌≤◌, List, ◌∷◌, ◌++◌, length, Option, Some, None, true, false}
 use Rattle.pylex_lexeme.specs.declared.kinds.Exact.{Exact}
 use Rattle.pylex_lexeme.specs.declared.kinds.Exact.TheVariants.{Comma}
@@ -14,7 +14,7 @@ use Rattle.pygrammar.specs.Precedence.{starts, starts_comp}
 use Rattle.pygrammar.specs.Targets.{stored}
 use Rattle.pyplaces.specs.Stretches.{Stretch}
 use Rattle.pyplaces.specs.Inner.Looks.{grip, grip_of, lead_of}
-use Rattle.pyplaces.specs.Inner.Questions.{Question, An, Aim, OneAim, Answer, Reading, Ask}
+use Rattle.pyplaces.specs.Inner.Questions.{Question, An, ATarget, LoneTarget, Answer, Reading, Ask}
 use Rattle.pyplaces.specs.Inner.Steps.{here}
 use Rattle.pyplaces.proofs.Unique.Leading.{Comes, from, to}
 use Rattle.pyplaces.proofs.Unique.Levels.{Stops, Reads}
@@ -68,28 +68,28 @@ ClauseStops r = (grip_of r ≤ 8) × (starts_comp r ≡ false)
 
 -- ---- Targets.
 
-abbrev pub AimStops : List Terminal → Type 0
-AimStops r = (grip_of r ≤ 22) × (grip_of r ≡ 3 → ⊥) × (lead_of r ≤ 6)
+abbrev pub TargetStops : List Terminal → Type 0
+TargetStops r = (grip_of r ≤ 22) × (grip_of r ≡ 3 → ⊥) × (lead_of r ≤ 6)
 
 -- in front of `in` an expression of target shape is read as a Primary
-abbrev pub AimAt : Level → List Terminal → (ℕ → List Stretch) → Type 0
-AimAt Stars ts f = Answers Aim ts f AimStops
-AimAt StarItem ts f = Answers OneAim ts f (λ r. grip_of r ≤ 22)
-AimAt Value ts f = Unit {0}
-AimAt Slices ts f = Unit {0}
-AimAt Part ts f = Unit {0}
-AimAt Slice ts f = Unit {0}
-AimAt Subject ts f = Unit {0}
-AimAt Elem ts f = Unit {0}
-AimAt Named ts f = Unit {0}
-AimAt Atom ts f = Unit {0}
-AimAt l ts f = Answers (An Primary) ts f (λ r. grip_of r ≤ 22)
+abbrev pub ATargetAt : Level → List Terminal → (ℕ → List Stretch) → Type 0
+ATargetAt Stars ts f = Answers ATarget ts f TargetStops
+ATargetAt StarItem ts f = Answers LoneTarget ts f (λ r. grip_of r ≤ 22)
+ATargetAt Value ts f = Unit {0}
+ATargetAt Slices ts f = Unit {0}
+ATargetAt Part ts f = Unit {0}
+ATargetAt Slice ts f = Unit {0}
+ATargetAt Subject ts f = Unit {0}
+ATargetAt Elem ts f = Unit {0}
+ATargetAt Named ts f = Unit {0}
+ATargetAt Atom ts f = Unit {0}
+ATargetAt l ts f = Answers (An Primary) ts f (λ r. grip_of r ≤ 22)
 
 -- what is shown of a derivation
 abbrev pub Good : Level → List Terminal → Expr → (ℕ → List Stretch) → Type 0
-Good l ts e f = Reads l ts f × ((s : Expr) → stored e ≡ Some s → AimAt l ts f)
+Good l ts e f = Reads l ts f × ((s : Expr) → stored e ≡ Some s → ATargetAt l ts f)
 
 -- what is no target has nothing to show there
-pub no_aim : (l : Level) (ts : List Terminal) (e : Expr) (f : ℕ → List Stretch) → stored e ≡ None → (s : Expr) → stored e ≡ Some s
-    → AimAt l ts f
-no_aim l ts e f h s q = absurd (cc (h, q))
+pub no_lone_target : (l : Level) (ts : List Terminal) (e : Expr) (f : ℕ → List Stretch) → stored e ≡ None → (s : Expr) → stored e ≡ Some s
+    → ATargetAt l ts f
+no_lone_target l ts e f h s q = absurd (cc (h, q))

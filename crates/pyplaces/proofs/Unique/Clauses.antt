@@ -1,6 +1,6 @@
 -- Comprehensions, and the targets in them.
 --
--- Carries: plain_aim .. comps_goes, comps_front, for AimForms, AtomForms, CurlyForms, TrailerForms, Expressions. On: Levels, Answered.
+-- Carries: plain_target .. comps_goes, comps_front, for TargetForms, AtomForms, CurlyForms, TrailerForms, Expressions. On: Levels, Answered.
 use Rattle.std.proofs.Common.{◌≡◌, refl, sym, ap, ℕ, ◌+◌, ◌≤◌, arith, List, [], ◌∷◌, ◌++◌, length, append_assoc, length-append}
 use Rattle.std.proofs.Common.{Option, Some, None, true, option_map, subst}
 use Rattle.pylex_lexeme.specs.declared.kinds.Exact.TheVariants.{Comma, Star}
@@ -19,52 +19,52 @@ use Rattle.pyplaces.specs.EntryPlaces.{EntryPlaces, singles}
 use Rattle.pyplaces.specs.Inner.Looks.{grip_of, lead_of}
 use Rattle.pyplaces.specs.Inner.ListSteps.{clause}
 use Rattle.pyplaces.specs.Inner.ExpressionSteps.{Goes}
-use Rattle.pyplaces.specs.Inner.Questions.{An, Clauses, Iteration, Conditions, Aim, OneAim, Aims}
+use Rattle.pyplaces.specs.Inner.Questions.{An, Clauses, Iteration, Conditions, ATarget, LoneTarget, TargetList}
 use Rattle.pyplaces.specs.Inner.Steps.{here, on}
 use Rattle.pyplaces.proofs.Unique.Leading.{Comes, via, past, miss, untrue, is_true}
 use Rattle.pyplaces.proofs.Unique.LookLemmas.{fronted, starts_of, starts_low}
 use Rattle.pyplaces.proofs.Unique.Levels.{Reads}
-use Rattle.pyplaces.proofs.Unique.Answered.{Answers, counted, shaped, AimStops, ClauseStops}
+use Rattle.pyplaces.proofs.Unique.Answered.{Answers, counted, shaped, TargetStops, ClauseStops}
 
 -- ---- Targets.
 
-abbrev pub OneAims : List Terminal → (ℕ → List Stretch) → Type 0
-OneAims ts f = Answers OneAim ts f (λ r. grip_of r ≤ 22)
+abbrev pub LoneTargets : List Terminal → (ℕ → List Stretch) → Type 0
+LoneTargets ts f = Answers LoneTarget ts f (λ r. grip_of r ≤ 22)
 
-abbrev pub PrimaryAims : List Terminal → (ℕ → List Stretch) → Type 0
-PrimaryAims ts f = Answers (An Primary) ts f (λ r. grip_of r ≤ 22)
+abbrev pub PrimaryTargets : List Terminal → (ℕ → List Stretch) → Type 0
+PrimaryTargets ts f = Answers (An Primary) ts f (λ r. grip_of r ≤ 22)
 
-pub plain_aim : (ts : List Terminal) (f : ℕ → List Stretch) → 9 ≤ lead_of ts → PrimaryAims ts f → OneAims ts f
-plain_aim ts f l p at rest k s = on (past _ (fronted ts rest 7 (omega (arith, l))) (p at rest k s))
+pub plain_target : (ts : List Terminal) (f : ℕ → List Stretch) → 9 ≤ lead_of ts → PrimaryTargets ts f → LoneTargets ts f
+plain_target ts f l p at rest k s = on (past _ (fronted ts rest 7 (omega (arith, l))) (p at rest k s))
 
-pub star_aim : (ts : List Terminal) (f : ℕ → List Stretch) → PrimaryAims ts f
-    → OneAims (Op Star ∷ ts) (λ at. f (1 + at) ++ over at (1 + length ts))
-star_aim ts f p at rest k s = on (via (p (1 + at) rest _ s) (counted k rest (omega arith)))
+pub starred_target : (ts : List Terminal) (f : ℕ → List Stretch) → PrimaryTargets ts f
+    → LoneTargets (Op Star ∷ ts) (λ at. f (1 + at) ++ over at (1 + length ts))
+starred_target ts f p at rest k s = on (via (p (1 + at) rest _ s) (counted k rest (omega arith)))
 
-pub lone_aim : (ts : List Terminal) (f : ℕ → List Stretch) → OneAims ts f → Answers Aim ts f AimStops
-lone_aim ts f p at rest k s = on (via (p at rest _ s.0) (past _ s.1 here))
+pub lone_target : (ts : List Terminal) (f : ℕ → List Stretch) → LoneTargets ts f → Answers ATarget ts f TargetStops
+lone_target ts f p at rest k s = on (via (p at rest _ s.0) (past _ s.1 here))
 
 -- a list of them
-abbrev pub AimsRead : List Terminal → (ℕ → List EntryPlaces) → Type 0
-AimsRead ts g = Answers Aims ts g AimStops
+abbrev pub TargetListRead : List Terminal → (ℕ → List EntryPlaces) → Type 0
+TargetListRead ts g = Answers TargetList ts g TargetStops
 
-pub no_aims : AimsRead [] (λ at. [])
-no_aims at rest k s = on (untrue _ (starts_low StarItem rest (omega (arith, s.2))) here)
+pub no_targets : TargetListRead [] (λ at. [])
+no_targets at rest k s = on (untrue _ (starts_low StarItem rest (omega (arith, s.2))) here)
 
-pub last_aim : (ts : List Terminal) (f : ℕ → List Stretch) → 7 ≤ lead_of ts → OneAims ts f → AimsRead ts (λ at. E.Single (f at) ∷ [])
-last_aim ts f l p at rest k s =
+pub last_of_targets : (ts : List Terminal) (f : ℕ → List Stretch) → 7 ≤ lead_of ts → LoneTargets ts f → TargetListRead ts (λ at. E.Single (f at) ∷ [])
+last_of_targets ts f l p at rest k s =
     on (is_true _ (starts_of StarItem ts rest (omega arith) l) (via (p at rest _ s.0) (past _ s.1 here)))
 
-pub more_aims : (ts us : List Terminal) (f : ℕ → List Stretch) (g : ℕ → List EntryPlaces) → 7 ≤ lead_of ts → OneAims ts f
-    → AimsRead us g → AimsRead (ts ++ (Op Comma ∷ us)) (λ at. E.Single (f at) ∷ g (at + (length ts + 1)))
-more_aims ts us f g l p q at rest k s = shaped Aims at k (append_assoc ts (Op Comma ∷ us) rest)
+pub more_target_list : (ts us : List Terminal) (f : ℕ → List Stretch) (g : ℕ → List EntryPlaces) → 7 ≤ lead_of ts → LoneTargets ts f
+    → TargetListRead us g → TargetListRead (ts ++ (Op Comma ∷ us)) (λ at. E.Single (f at) ∷ g (at + (length ts + 1)))
+more_target_list ts us f g l p q at rest k s = shaped TargetList at k (append_assoc ts (Op Comma ∷ us) rest)
     (on (is_true _ (starts_of StarItem ts (Op Comma ∷ (us ++ rest)) (omega arith) l) (via (p at (Op Comma ∷ (us ++ rest)) _ (omega arith))
     (via (q (at + (length ts + 1)) rest _ s) (counted k rest (omega (arith, length-append ts (Op Comma ∷ us))))))))
 
-pub tuple_aim : (ts us : List Terminal) (f : ℕ → List Stretch) (g : ℕ → List EntryPlaces) → OneAims ts f → AimsRead us g
-    → Answers Aim (ts ++ (Op Comma ∷ us))
-    (λ at. f at ++ (singles (g (at + (length ts + 1))) ++ over at (length ts + (1 + length us)))) AimStops
-tuple_aim ts us f g p q at rest k s = shaped Aim at k (append_assoc ts (Op Comma ∷ us) rest)
+pub tuple_target : (ts us : List Terminal) (f : ℕ → List Stretch) (g : ℕ → List EntryPlaces) → LoneTargets ts f → TargetListRead us g
+    → Answers ATarget (ts ++ (Op Comma ∷ us))
+    (λ at. f at ++ (singles (g (at + (length ts + 1))) ++ over at (length ts + (1 + length us)))) TargetStops
+tuple_target ts us f g p q at rest k s = shaped ATarget at k (append_assoc ts (Op Comma ∷ us) rest)
     (on (via (p at (Op Comma ∷ (us ++ rest)) _ (omega arith))
     (via (q (at + (length ts + 1)) rest _ s) (counted k rest (omega (arith, length-append ts (Op Comma ∷ us)))))))
 
@@ -96,7 +96,7 @@ if_one_goes ts us p w q at rest k s = shaped Conditions at k (ap (λ z. Word Key
     (on (via (p (1 + at) (us ++ rest) _ (omega (arith, ifs_grip w rest s))) (via (q (1 + (at + length ts)) rest _ s)
     (counted k rest (omega (arith, length-append ts us))))))
 
-pub target_in_goes : (ts us vs : List Terminal) {es : List Expr} {f g h : ℕ → List Stretch} → Answers Aim ts f AimStops → Reads Or us g
+pub target_in_goes : (ts us vs : List Terminal) {es : List Expr} {f g h : ℕ → List Stretch} → Answers ATarget ts f TargetStops → Reads Or us g
     → G.Ifs vs es → Answers Conditions vs h IfsStop
     → Answers Iteration (ts ++ (Word Key.In ∷ (us ++ vs)))
     (λ at. f at ++ (g (1 + (at + length ts)) ++ h (1 + (at + (length ts + length us))))) IfsStop

@@ -1,6 +1,6 @@
 -- Each derivation of an expression is a way from the question of its level to its places.
 --
--- Carries: goes, listing_all, literals_all, perhaps_all, for Law, PatternValues, LineParts and what stands on it. On: Forms to AimForms.
+-- Carries: goes, listing_all, literals_all, perhaps_all, for Law, PatternValues, LineParts and what stands on it. On: Forms to TargetForms.
 use Rattle.std.proofs.Common.{◌≡◌, refl, ℕ, ◌≤◌, ◌<◌, arith, List, [], ◌∷◌, ◌++◌, Option, Some, Bool, true}
 use Rattle.pylex_lexeme.specs.declared.kinds.Exact.{Exact}
 use Rattle.pylex_lexeme.specs.declared.kinds.Exact.TheVariants.{LPar, RPar, LSqb, RSqb, Comma, Colon, Dot, DoubleStar}
@@ -58,8 +58,8 @@ use Rattle.pyplaces.proofs.Unique.StringForms.{PartsRead, SpecReads, no_part_goe
 use Rattle.pyplaces.proofs.Unique.StringForms.{spec_goes, StringsRead, no_literal_goes, text_literal_goes, formatted_literal_goes}
 use Rattle.pyplaces.proofs.Unique.StringForms.{run_strings}
 use Rattle.pyplaces.proofs.Unique.StringForms.{run_joined}
-use Rattle.pyplaces.proofs.Unique.AimForms.{next_good, no_target, primary, star_item_good, ListAim, star_tuple_good, none_aimed, last_aimed}
-use Rattle.pyplaces.proofs.Unique.AimForms.{more_aimed}
+use Rattle.pyplaces.proofs.Unique.TargetForms.{next_good, no_target, primary, star_item_good, ListTarget, star_tuple_good, none_targeted, last_targeted}
+use Rattle.pyplaces.proofs.Unique.TargetForms.{more_targeted}
 
 -- a run of literals is asked for where an Atom is
 atom_run : {u : Bool} {ts : List Terminal} {ps : List StringPart} → G.Literals u ts ps → has_formatted ts ≡ true → (at : ℕ)
@@ -77,7 +77,7 @@ mutual
       next_good l ts e _ (led p) (next_goes l ts _ (led p) (not_star p) (goes p).0) (goes p)
   goes (G.yields {ts = ts} {e = e} p) = (yields_goes ts (yields_all p), λ s h. tt)
   goes (G.star_tuple {ts = ts} {us = us} {e = e} {es = es} p c) = star_tuple_good ts us e es _ _
-      (star_tuple_goes ts us (goes p).0 (listing_all c (λ r. omega arith))) (goes p) (aims_all c)
+      (star_tuple_goes ts us (goes p).0 (listing_all c (λ r. omega arith))) (goes p) (targets_all c)
   goes (G.star_item {ts = ts} {e = e} p) = star_item_good ts e _ (star_item_goes ts _ (goes p).0) (goes p)
   goes (G.named {x = x} {ts = ts} {e = e} p) = (named_goes x ts (goes p).0, λ s h. tt)
   goes (G.lambda {ts = ts} {us = us} {a = a} {e = e} c h p) =
@@ -209,14 +209,14 @@ mutual
   listing_all (G.item {i = i} {ts = ts} {us = us} p c) =
       item_goes i ts us (λ r. piece_starts p r) (piece_all p) (listing_all c)
 
-  aims_all : {i : Item} {us : List Terminal} {es : List Entry} (c : G.Listing i us es) → (z : Exprs) → all_stored (singles es) ≡ Some z
-      → ListAim i us (λ at. listing_places at c)
-  aims_all (G.no_item {i = i}) z h = none_aimed i
-  aims_all (G.last_item (G.single {l = l} {ts = ts} {e = e} p)) z h = last_aimed l ts e _ (led p) (goes p) z h
-  aims_all (G.last_item _) z h = tt
-  aims_all (G.item {us = us} {es = es} (G.single {l = l} {ts = ts} {e = e} p) c) z h =
-      more_aimed l ts us e es _ _ (led p) (goes p) (aims_all c) z h
-  aims_all (G.item _ c) z h = tt
+  targets_all : {i : Item} {us : List Terminal} {es : List Entry} (c : G.Listing i us es) → (z : Exprs) → all_stored (singles es) ≡ Some z
+      → ListTarget i us (λ at. listing_places at c)
+  targets_all (G.no_item {i = i}) z h = none_targeted i
+  targets_all (G.last_item (G.single {l = l} {ts = ts} {e = e} p)) z h = last_targeted l ts e _ (led p) (goes p) z h
+  targets_all (G.last_item _) z h = tt
+  targets_all (G.item {us = us} {es = es} (G.single {l = l} {ts = ts} {e = e} p) c) z h =
+      more_targeted l ts us e es _ _ (led p) (goes p) (targets_all c) z h
+  targets_all (G.item _ c) z h = tt
 
   piece_all : {i : Item} {ts : List Terminal} {a : Entry} (p : G.Piece i ts a)
       → Answers (Piece i) ts (λ at. piece_places at p) (PieceStops i)

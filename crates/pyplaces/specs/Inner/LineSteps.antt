@@ -15,7 +15,7 @@ use Rattle.pyplaces.specs.Stretches.{Stretch, over}
 use Rattle.pyplaces.specs.EntryPlaces as E
 use Rattle.pyplaces.specs.FormPlaces.{FormPlaces, form_places, with_suite, plain_header}
 use Rattle.pyplaces.specs.Inner.Looks.{after, lead_of, is_named, on_grip, on_lead, on_mark}
-use Rattle.pyplaces.specs.Inner.Questions.{An, Perhaps, Items, Aim, Pattern, Element, AParameter, AnAlias, ADotted, ADeleted, AnItem}
+use Rattle.pyplaces.specs.Inner.Questions.{An, Perhaps, Items, ATarget, Pattern, Element, AParameter, AnAlias, ADotted, ADeleted, AnItem}
 use Rattle.pyplaces.specs.Inner.Questions.{AName, Commaed, Module, Dots, Valued, Statement, Statements, Reading, Done, Ask}
 use Rattle.pyplaces.specs.Inner.ExpressionSteps.{Goes}
 
@@ -151,7 +151,7 @@ headed l n at r k = Ask (An l) (n + at) r (λ ps m r1. k (plain_header ps) (n + 
 
 -- so many terminals stand before `for`
 abbrev pub for_read : ℕ → ℕ → List Terminal → HeadGoes → Reading
-for_read a at i k = Ask Aim (1 + (at + a)) i (λ ps n r. Ask (An Stars) (2 + (at + (a + n))) (after r)
+for_read a at i k = Ask ATarget (1 + (at + a)) i (λ ps n r. Ask (An Stars) (2 + (at + (a + n))) (after r)
     (λ qs m r1. k (plain_header (ps ++ qs)) (2 + (a + (n + m))) r1))
 
 -- the items of a `with` in brackets, and without

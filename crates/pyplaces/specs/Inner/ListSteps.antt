@@ -10,7 +10,7 @@ use Rattle.pyplaces.specs.Stretches.{Stretch, stretch, over}
 use Rattle.pyplaces.specs.EntryPlaces as E
 use Rattle.pyplaces.specs.EntryPlaces.{EntryPlaces, singles}
 use Rattle.pyplaces.specs.Inner.Looks.{after, name_grip, is_named, has_starred, on_grip, on_lead}
-use Rattle.pyplaces.specs.Inner.Questions.{An, Suffixed, Items, Piece, Clauses, Iteration, Conditions, Aim, OneAim, Aims, Reading}
+use Rattle.pyplaces.specs.Inner.Questions.{An, Suffixed, Items, Piece, Clauses, Iteration, Conditions, ATarget, LoneTarget, TargetList, Reading}
 use Rattle.pyplaces.specs.Inner.Questions.{Ask}
 
 -- ---- Lists.
@@ -71,7 +71,7 @@ clauses_step at i k = clause at i (λ ps n r.
     cond (starts_comp r) (Ask Clauses (at + n) r (λ qs m r1. k (ps ++ qs) (n + m) r1)) (k ps n r))
 
 abbrev pub iteration_step : ℕ → List Terminal → (List Stretch → ℕ → List Terminal → Reading) → Reading
-iteration_step at i k = Ask Aim at i (λ ps n r. Ask (An Or) (1 + (at + n)) (after r) (λ qs m r1.
+iteration_step at i k = Ask ATarget at i (λ ps n r. Ask (An Or) (1 + (at + n)) (after r) (λ qs m r1.
     Ask Conditions (1 + (at + (n + m))) r1 (λ rs w r2. k (ps ++ (qs ++ rs)) (1 + (n + (m + w))) r2)))
 
 abbrev pub conditions_step : ℕ → List Terminal → (List Stretch → ℕ → List Terminal → Reading) → Reading
@@ -81,16 +81,16 @@ conditions_step at i k = on_grip 9 i
 
 -- ---- Targets in front of `in`, where a comparison can't follow.
 
-abbrev pub one_aim_step : ℕ → List Terminal → (List Stretch → ℕ → List Terminal → Reading) → Reading
-one_aim_step at i k = on_lead 7 i
+abbrev pub lone_target_step : ℕ → List Terminal → (List Stretch → ℕ → List Terminal → Reading) → Reading
+lone_target_step at i k = on_lead 7 i
     (Ask (An Primary) (1 + at) (after i) (λ ps n r. k (ps ++ over at (1 + n)) (1 + n) r)) (Ask (An Primary) at i k)
 
-abbrev pub aim_step : ℕ → List Terminal → (List Stretch → ℕ → List Terminal → Reading) → Reading
-aim_step at i k = Ask OneAim at i (λ ps n r. on_grip 3 r
-    (Ask Aims (at + (n + 1)) (after r) (λ es m r1. k (ps ++ (singles es ++ over at (n + (1 + m)))) (n + (1 + m)) r1)) (k ps n r))
+abbrev pub target_step : ℕ → List Terminal → (List Stretch → ℕ → List Terminal → Reading) → Reading
+target_step at i k = Ask LoneTarget at i (λ ps n r. on_grip 3 r
+    (Ask TargetList (at + (n + 1)) (after r) (λ es m r1. k (ps ++ (singles es ++ over at (n + (1 + m)))) (n + (1 + m)) r1)) (k ps n r))
 
-abbrev pub aims_step : ℕ → List Terminal → (List EntryPlaces → ℕ → List Terminal → Reading) → Reading
-aims_step at r k = cond (starts (Of StarItem) r)
-    (Ask OneAim at r (λ ps n r1. on_grip 3 r1
-    (Ask Aims (at + (n + 1)) (after r1) (λ es m r2. k (E.Single ps ∷ es) (n + (1 + m)) r2)) (k (E.Single ps ∷ []) n r1)))
+abbrev pub target_list_step : ℕ → List Terminal → (List EntryPlaces → ℕ → List Terminal → Reading) → Reading
+target_list_step at r k = cond (starts (Of StarItem) r)
+    (Ask LoneTarget at r (λ ps n r1. on_grip 3 r1
+    (Ask TargetList (at + (n + 1)) (after r1) (λ es m r2. k (E.Single ps ∷ es) (n + (1 + m)) r2)) (k (E.Single ps ∷ []) n r1)))
     (k [] 0 r)

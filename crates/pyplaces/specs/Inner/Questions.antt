@@ -43,9 +43,9 @@ pub data Question : Type 0 where
   Clauses : Question
   Iteration : Question
   Conditions : Question
-  Aim : Question  -- a target in front of `in`
-  OneAim : Question
-  Aims : Question
+  ATarget : Question  -- a target in front of `in`
+  LoneTarget : Question
+  TargetList : Question
   Pattern : PatternLevel → Question
   Dotted : List Stretch → ℕ → Question  -- the rest of a dotted name
   Alternatives : Question
@@ -74,7 +74,7 @@ Answer Parts = Row
 Answer Specified = Stretch → List Stretch
 Answer (Items i) = List EntryPlaces
 Answer (Piece i) = EntryPlaces
-Answer Aims = List EntryPlaces
+Answer TargetList = List EntryPlaces
 Answer (Entries i) = List PatternPlaces.EntryPlaces
 Answer (Entry i) = PatternPlaces.EntryPlaces
 Answer _ = List Stretch

@@ -2,15 +2,15 @@
 use Rattle.std.specs.Prelude.{ℕ, List}
 use Rattle.pytoken.specs.Terminals.{Terminal}
 use Rattle.pyplaces.specs.Inner.Questions.{Question, An, More, Trailers, Bounds, Yielded, Perhaps, Suffixed, Links, Signs, Strings}
-use Rattle.pyplaces.specs.Inner.Questions.{Parts, Specified, Items, Piece, Clauses, Iteration, Conditions, Aim, OneAim, Aims, Answer}
+use Rattle.pyplaces.specs.Inner.Questions.{Parts, Specified, Items, Piece, Clauses, Iteration, Conditions, ATarget, LoneTarget, TargetList, Answer}
 use Rattle.pyplaces.specs.Inner.Questions.{Pattern, Dotted, Alternatives, Entries, Entry, Commaed, Module, Dots, Valued, Statement}
 use Rattle.pyplaces.specs.Inner.Questions.{Statements}
 use Rattle.pyplaces.specs.Inner.Questions.{Reading, Ask}
 use Rattle.pyplaces.specs.Inner.ExpressionSteps.{level_step, more_step, bounds_step, yielded_step, perhaps_step, suffixed_step}
 use Rattle.pyplaces.specs.Inner.ExpressionSteps.{links_step, signs_step}
 use Rattle.pyplaces.specs.Inner.AtomSteps.{trailers_step, strings_step, parts_step, specified_step}
-use Rattle.pyplaces.specs.Inner.ListSteps.{items_step, piece_step, clauses_step, iteration_step, conditions_step, aim_step}
-use Rattle.pyplaces.specs.Inner.ListSteps.{one_aim_step, aims_step}
+use Rattle.pyplaces.specs.Inner.ListSteps.{items_step, piece_step, clauses_step, iteration_step, conditions_step, target_step}
+use Rattle.pyplaces.specs.Inner.ListSteps.{lone_target_step, target_list_step}
 use Rattle.pyplaces.specs.Inner.PatternSteps.{pattern_step, dotted_step, alternatives_step, entries_step, entry_step}
 use Rattle.pyplaces.specs.Inner.LineSteps.{commaed_step, module_step, dots_step, valued_step, statement_step, statements_step}
 
@@ -32,9 +32,9 @@ step (Piece item) at i k = piece_step item at i k
 step Clauses at i k = clauses_step at i k
 step Iteration at i k = iteration_step at i k
 step Conditions at i k = conditions_step at i k
-step Aim at i k = aim_step at i k
-step OneAim at i k = one_aim_step at i k
-step Aims at i k = aims_step at i k
+step ATarget at i k = target_step at i k
+step LoneTarget at i k = lone_target_step at i k
+step TargetList at i k = target_list_step at i k
 step (Pattern l) at i k = pattern_step l at i k
 step (Dotted ps n) at i k = dotted_step ps n at i k
 step Alternatives at i k = alternatives_step at i k

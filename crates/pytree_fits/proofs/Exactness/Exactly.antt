@@ -32,7 +32,7 @@ use Rattle.pytree_fits.proofs.Giving.Calls.{star_up, listed}
 use Rattle.pytree_fits.proofs.Giving.Parameters.{ArgMade, bare, noted, ArgsMade, no_args, more_args, OptionalArgMade, none_made, one_made}
 use Rattle.pytree_fits.proofs.Giving.Parameters.{StarArgMade, unstarred, starred, arrangement}
 use Rattle.pytree_fits.proofs.Giving.Gives as Gives
-use Rattle.pytree_fits.proofs.Giving.Gives.{made, aim, each, keys, labelled}
+use Rattle.pytree_fits.proofs.Giving.Gives.{made, a_target, each, keys, labelled}
 
 pub fits_exactly : FitsExactly
 fits_exactly n l e = (λ w. slots (outside n) w.2 w.1, λ h. let w = made (outside n) l e h in (w.0, all_passing n w.0 w.1, w.2))
@@ -42,7 +42,7 @@ module _ (n : Tests) where
 
   pub target_given : (s : Expr) → fits_target n Store s ≡ true → GivenAsSpelled (outside n) G.Target s
   target_given s h =
-      let a = aim (outside n) s h in
+      let a = a_target (outside n) s h in
       let u = a.given Stars refl in
       (u.0, u.1, G.target u.2 a.is)
 
@@ -106,14 +106,14 @@ module _ (n : Tests) where
 
   item_from : (s : Expr) → is_starred s ≡ false → fits_target n Store s ≡ true → GivenAsSpelled (outside n) G.ItemTarget s
   item_from s b h =
-      let a = aim (outside n) s h in
+      let a = a_target (outside n) s h in
       let u = (a.bare b).0 Expression in
       (u.0, u.1, G.item_target u.2 a.is)
 
   pub item_target_given : (s : Expr) → fits_target n Store s ≡ true → GivenAsSpelled (outside n) G.ItemTarget s
   item_target_given (Trees.Starred e c) h =
       let w = parts3 (is_context Store c) (not (is_starred e)) (fits_target n Store e) h in
-      let a = aim (outside n) e w.2 in
+      let a = a_target (outside n) e w.2 in
       let b = a.bare (not-true (is_starred e) w.1) in
       let u = b.0 Expression in
       in_context (λ k. GivenAsSpelled (outside n) G.ItemTarget (Trees.Starred e k)) Store c w.0 (

@@ -186,17 +186,17 @@ module _ (n : Standing) where
 -- ---- Targets.
 
 -- the expression that is stored as a target
-pub record Aim (n : Standing) (s : Expr) : Type 0 where
+pub record ATarget (n : Standing) (s : Expr) : Type 0 where
   pub tree : Expr
   pub is : stored tree ≡ Some s
   pub given : (l : Level) → takes_star l ≡ true → P.At n l tree
   pub bare : is_starred s ≡ false → ((l : Level) → P.At n l tree) × (is_starred tree ≡ false)
 
-pub data Aims (n : Standing) : Exprs → Type 0 where
-  no_aim : Aims n no_exprs
-  an_aim : {e : Expr} {es : Exprs} → Aim n e → Aims n es → Aims n (an_expr e es)
+pub data TargetList (n : Standing) : Exprs → Type 0 where
+  no_lone_target : TargetList n no_exprs
+  one_more_target : {e : Expr} {es : Exprs} → ATarget n e → TargetList n es → TargetList n (an_expr e es)
 
-record Aimed (n : Standing) (es : Exprs) : Type 0 where
+record Targeted (n : Standing) (es : Exprs) : Type 0 where
   list : Exprs
   is : all_stored list ≡ Some es
   each : Each n Elem list
@@ -206,17 +206,17 @@ star_up (Trees.Starred e c) f h q = absurd (cc)
 star_up e f h q = ap (option_map (λ f. Trees.Starred f Store)) q
 
 module _ (n : Standing) where
-  aimed : {es : Exprs} → Aims n es → Aimed n es
-  aimed no_aim = record { list = no_exprs; is = refl; each = no_more }
-  aimed (an_aim {e = e} {es = es} a r) = let w = aimed r in record {
+  targeted : {es : Exprs} → TargetList n es → Targeted n es
+  targeted no_lone_target = record { list = no_exprs; is = refl; each = no_more }
+  targeted (one_more_target {e = e} {es = es} a r) = let w = targeted r in record {
     list = an_expr a.tree w.list;
     is = rw (a.is, w.is) refl;
     each =
         one_more (a.given Elem refl) w.each;
   }
 
-  pub name_aim : (x : Identifier) → n.tests.name x ≡ true → Aim n (Trees.Name x Store)
-  name_aim x h = record {
+  pub name_target : (x : Identifier) → n.tests.name x ≡ true → ATarget n (Trees.Name x Store)
+  name_target x h = record {
     tree = Trees.Name x Load;
     is = refl;
     given = λ l q. name_given n l x h;
@@ -224,8 +224,8 @@ module _ (n : Standing) where
         λ q. (λ l. name_given n l x h, refl);
   }
 
-  pub attribute_aim : (e : Expr) (x : Identifier) → n.tests.name x ≡ true → P.At n Expression e → Aim n (Trees.Attribute e x Store)
-  attribute_aim e x h f = record {
+  pub attribute_target : (e : Expr) (x : Identifier) → n.tests.name x ≡ true → P.At n Expression e → ATarget n (Trees.Attribute e x Store)
+  attribute_target e x h f = record {
     tree = Trees.Attribute e x Load;
     is = refl;
     given = λ l q. attribute_given n l e x h f;
@@ -233,8 +233,8 @@ module _ (n : Standing) where
         λ q. (λ l. attribute_given n l e x h f, refl);
   }
 
-  pub subscript_aim : (e s : Expr) → P.At n Expression e → P.At n Slices s → Aim n (Trees.Subscript e s Store)
-  subscript_aim e s f g = record {
+  pub subscript_target : (e s : Expr) → P.At n Expression e → P.At n Slices s → ATarget n (Trees.Subscript e s Store)
+  subscript_target e s f g = record {
     tree = Trees.Subscript e s Load;
     is = refl;
     given = λ l q. subscript_given n l e s f g;
@@ -242,15 +242,15 @@ module _ (n : Standing) where
         λ q. (λ l. subscript_given n l e s f g, refl);
   }
 
-  pub tuple_aim : (es : Exprs) → Aims n es → Aim n (Trees.Tuple es Store)
-  tuple_aim es a =
-      let w = aimed a in
+  pub tuple_target : (es : Exprs) → TargetList n es → ATarget n (Trees.Tuple es Store)
+  tuple_target es a =
+      let w = targeted a in
       let p = tuple_given n Atom w.list w.each in
       record { tree = Trees.Tuple w.list Load; is = rw w.is refl; given = λ l q. lifted n l p; bare = λ q. (λ l. lifted n l p, refl) }
 
-  pub list_aim : (es : Exprs) → Aims n es → Aim n (Trees.ListOf es Store)
-  list_aim es a =
-      let w = aimed a in
+  pub list_target : (es : Exprs) → TargetList n es → ATarget n (Trees.ListOf es Store)
+  list_target es a =
+      let w = targeted a in
       record {
         tree = Trees.ListOf w.list Load;
         is = rw w.is refl;
@@ -259,8 +259,8 @@ module _ (n : Standing) where
             λ q. (λ l. list_given n l w.list w.each, refl);
       }
 
-  pub star_aim : (e : Expr) → not (is_starred e) ≡ true → Aim n e → Aim n (Trees.Starred e Store)
-  star_aim e h a =
+  pub starred_target : (e : Expr) → not (is_starred e) ≡ true → ATarget n e → ATarget n (Trees.Starred e Store)
+  starred_target e h a =
       let w = a.bare (not-true (is_starred e) h) in
       record {
         tree = Trees.Starred a.tree Load;
@@ -277,7 +277,7 @@ module _ (n : Standing) where
 
 pub data Clauses (n : Standing) : Comprehensions → Type 0 where
   no_clause : Clauses n no_comprehension
-  a_clause : {t e : Expr} {cs : Exprs} {b : Bool} {gs : Comprehensions} → Aim n t → P.At n Expression e → Each n Expression cs
+  a_clause : {t e : Expr} {cs : Exprs} {b : Bool} {gs : Comprehensions} → ATarget n t → P.At n Expression e → Each n Expression cs
       → Clauses n gs → Clauses n (a_comprehension t e cs b gs)
 
 record Conditions (n : Standing) (es : Exprs) : Type 0 where
@@ -306,7 +306,7 @@ module _ (n : Standing) where
             (Word Key.If ∷ (u.0 ++ w.ifs.0), pass_on n u.0 w.ifs.0 u.1 w.ifs.1, G.if_one u.2 w.ifs.2);
       }
 
-  for_clause : (t e : Expr) {cs : List Expr} (b : Bool) → Aim n t → P.At n Expression e → GivenAsSpelled n G.Ifs cs
+  for_clause : (t e : Expr) {cs : List Expr} (b : Bool) → ATarget n t → P.At n Expression e → GivenAsSpelled n G.Ifs cs
       → GivenAsSpelled n G.Comp (clause t e cs b)
   for_clause t e b a f c =
       let u = a.given Stars refl in
@@ -319,7 +319,7 @@ module _ (n : Standing) where
       by true ts h p = (Word Key.Async ∷ (Word Key.For ∷ ts), h, G.async_for_in p)
       by false ts h p = (Word Key.For ∷ ts, h, G.for_in p)
 
-  claused_more : (t e : Expr) (cs : Exprs) (b : Bool) (gs : Comprehensions) → Aim n t → P.At n Expression e → Each n Expression cs
+  claused_more : (t e : Expr) (cs : Exprs) (b : Bool) (gs : Comprehensions) → ATarget n t → P.At n Expression e → Each n Expression cs
       → Clauses n gs → Claused n (a_comprehension t e cs b gs)
   claused_more t e cs b no_comprehension a f r s =
       let c = conditions r in

@@ -27,8 +27,8 @@ use Rattle.pytree_fits.proofs.Giving.Making.{name_given, constant_given, binary_
 use Rattle.pytree_fits.proofs.Giving.Making.{if_given, named_given, yield_from_given, yield_given, tuple_given, list_given, set_given}
 use Rattle.pytree_fits.proofs.Giving.Making.{attribute_given, subscript_given, slice_given}
 use Rattle.pytree_fits.proofs.Giving.Calls.{Positional, no_positional, a_plain, a_star, Labelled, no_label, a_label, call_given, Keys}
-use Rattle.pytree_fits.proofs.Giving.Calls.{no_keys, no_key, a_key, dict_given, Aim, Aims, no_aim, an_aim, name_aim, attribute_aim}
-use Rattle.pytree_fits.proofs.Giving.Calls.{subscript_aim, tuple_aim, list_aim, star_aim, Clauses, no_clause, a_clause, generator_given}
+use Rattle.pytree_fits.proofs.Giving.Calls.{no_keys, no_key, a_key, dict_given, ATarget, TargetList, no_lone_target, one_more_target, name_target, attribute_target}
+use Rattle.pytree_fits.proofs.Giving.Calls.{subscript_target, tuple_target, list_target, starred_target, Clauses, no_clause, a_clause, generator_given}
 use Rattle.pytree_fits.proofs.Giving.Calls.{list_comp_given, set_comp_given, dict_comp_given}
 use Rattle.pytree_fits.proofs.Fields.Arranging.{fit_parts}
 use Rattle.pytree_fits.proofs.Giving.Parameters.{lambda_given}
@@ -109,28 +109,28 @@ mutual
       (perhaps_fits (here n) Expression c) h in
       slice_given n l a b c w.0 (may_be n Expression a w.1) (may_be n Expression b w.2) (may_be n Expression c w.3)
 
-  pub aim : (n : Standing) → (s : Expr) → fits_target (here n) Store s ≡ true → Aim n s
-  aim n (Trees.Name x c) h = let w = and_parts (is_context Store c) (n.tests.name x) h in
-      in_context (λ k. Aim n (Trees.Name x k)) Store c w.0 (name_aim n x w.1)
-  aim n (Trees.Attribute e x c) h =
+  pub a_target : (n : Standing) → (s : Expr) → fits_target (here n) Store s ≡ true → ATarget n s
+  a_target n (Trees.Name x c) h = let w = and_parts (is_context Store c) (n.tests.name x) h in
+      in_context (λ k. ATarget n (Trees.Name x k)) Store c w.0 (name_target n x w.1)
+  a_target n (Trees.Attribute e x c) h =
       let w = parts3 (is_context Store c) (n.tests.name x) (fits_at (here n) Expression e) h in
-      in_context (λ k. Aim n (Trees.Attribute e x k)) Store c w.0 (attribute_aim n e x w.1 (made n Expression e w.2))
-  aim n (Trees.Subscript e s c) h =
+      in_context (λ k. ATarget n (Trees.Attribute e x k)) Store c w.0 (attribute_target n e x w.1 (made n Expression e w.2))
+  a_target n (Trees.Subscript e s c) h =
       let w = parts3 (is_context Store c) (fits_at (here n) Expression e) (fits_at (here n) Slices s) h in
-      in_context (λ k. Aim n (Trees.Subscript e s k)) Store c w.0 (subscript_aim n e s (made n Expression e w.1) (made n Slices s w.2))
-  aim n (Trees.Tuple es c) h = let w = and_parts (is_context Store c) (each_target_fits (here n) Store es) h in
-      in_context (λ k. Aim n (Trees.Tuple es k)) Store c w.0 (tuple_aim n es (aims n es w.1))
-  aim n (Trees.ListOf es c) h = let w = and_parts (is_context Store c) (each_target_fits (here n) Store es) h in
-      in_context (λ k. Aim n (Trees.ListOf es k)) Store c w.0 (list_aim n es (aims n es w.1))
-  aim n (Trees.Starred e c) h =
+      in_context (λ k. ATarget n (Trees.Subscript e s k)) Store c w.0 (subscript_target n e s (made n Expression e w.1) (made n Slices s w.2))
+  a_target n (Trees.Tuple es c) h = let w = and_parts (is_context Store c) (each_target_fits (here n) Store es) h in
+      in_context (λ k. ATarget n (Trees.Tuple es k)) Store c w.0 (tuple_target n es (target_list n es w.1))
+  a_target n (Trees.ListOf es c) h = let w = and_parts (is_context Store c) (each_target_fits (here n) Store es) h in
+      in_context (λ k. ATarget n (Trees.ListOf es k)) Store c w.0 (list_target n es (target_list n es w.1))
+  a_target n (Trees.Starred e c) h =
       let w = parts3 (is_context Store c) (not (is_starred e)) (fits_target (here n) Store e) h in
-      in_context (λ k. Aim n (Trees.Starred e k)) Store c w.0 (star_aim n e w.1 (aim n e w.2))
-  aim n _ h = absurd (never h)
+      in_context (λ k. ATarget n (Trees.Starred e k)) Store c w.0 (starred_target n e w.1 (a_target n e w.2))
+  a_target n _ h = absurd (never h)
 
-  aims : (n : Standing) → (es : Exprs) → each_target_fits (here n) Store es ≡ true → Aims n es
-  aims n no_exprs h = no_aim
-  aims n (an_expr e es) h = let w = and_parts (fits_target (here n) Store e) (each_target_fits (here n) Store es) h in
-      an_aim (aim n e w.0) (aims n es w.1)
+  target_list : (n : Standing) → (es : Exprs) → each_target_fits (here n) Store es ≡ true → TargetList n es
+  target_list n no_exprs h = no_lone_target
+  target_list n (an_expr e es) h = let w = and_parts (fits_target (here n) Store e) (each_target_fits (here n) Store es) h in
+      one_more_target (a_target n e w.0) (target_list n es w.1)
 
   pub each : (n : Standing) → (l : Level) (es : Exprs) → each_fits (here n) l es ≡ true → Each n l es
   each n l no_exprs h = no_more
@@ -166,7 +166,7 @@ mutual
   clauses n (a_comprehension t e cs b gs) h =
       let w = parts4 (fits_target (here n) Store t) (fits_at (here n) Expression e) (each_fits (here n) Expression cs)
       (each_clause_fits (here n) gs) h in
-      a_clause (aim n t w.0) (made n Expression e w.1) (each n Expression cs w.2) (clauses n gs w.3)
+      a_clause (a_target n t w.0) (made n Expression e w.1) (each n Expression cs w.2) (clauses n gs w.3)
 
   -- the values of an f-string or of a format spec
   pub values : (n : Standing) (d : ℕ) (u s b : Bool) (es : Exprs) → each_value_fits (here n) d es ≡ true → are_apart b es ≡ true
