@@ -42,7 +42,7 @@ FAULT_LINE = re.compile(r"<stdin>:(\d+):(\d+): error: (.*)\n")
 OCTAL_IN_BYTES = re.compile(rb"\\[4-7][0-7][0-7]")
 # A backslash with what it takes along, or another byte.
 UNIT = re.compile(rb"\\[0-7]{1,3}|\\.|[^\\]", re.DOTALL)
-JOINED_MARGIN = re.compile(rb"^([ \t\f]*)\\\r?\n([ \t\f]*)", re.MULTILINE)
+JOINED_MARGIN = re.compile(rb"^[ \t\f]*(?:\\\r?\n[ \t\f]*)+", re.MULTILINE)
 MARGIN = re.compile(r"[ \t\f]*")
 ANNOTATED = re.compile(rb"AnnAssign\(target=(Attribute|Subscript)\(")
 HIGHEST = 500
@@ -66,6 +66,7 @@ TARGET = "annotated target with a front in brackets"
 NAMES = "identifier characters"
 NEWER = "characters newer than Unicode 14"
 JOIN = "line that begins with a join"
+TAB = "tab before a join that begins a line"
 
 # The classes, in the order of the table, each with a source that has to fall into it.
 SAMPLES = {
@@ -90,6 +91,7 @@ SAMPLES = {
     NAMES: "a\u30fbb\n".encode(),
     NEWER: "'\U0001fae8'\n".encode(),
     JOIN: b"if x:\n y\n\\\n z\n",
+    TAB: b"if x:\n\t\\\ny\n\tz\n",
 }
 LEFT_OUT = {"Float": (FLOAT, "float literal"), "Complex": (COMPLEX, "complex literal"), "FString": (FSTRING, "f-string"),
             "IntegerTooLarge": (LARGE, "integer too large"), "NamedEscape": (NAMED, "named escape"), "Match": (MATCH, "match statement")}
@@ -276,9 +278,25 @@ def class_of_tree(program, data, tree, plain, styles):
     return NEWER if [as_escapes(outcome.out) for outcome in outs] == due else None
 
 
-def by_first_margin(found):
-    """What Python takes for the margin of a line that begins with a join: that before the join, or that after it where there is none."""
-    return found[1] or found[2]
+def blanks_of(found):
+    """The blanks before each join that a line begins with, and those after the last."""
+    return re.split(rb"\\\r?\n", found[0])
+
+
+def python_margin(found):
+    """What Python takes for the margin of such a line: the first of these that have a width, a tab as eight columns in both counts, or the last."""
+    *before, last = blanks_of(found)
+    return next(filter(None, (part.rpartition(b"\f")[2].expandtabs(8) for part in before)), last)
+
+
+def class_of_joined(program, data, styles):
+    """The class of a source with lines that begin with a join, or None: pyast measures such a line by its own blanks, Python as said above."""
+    own, theirs = JOINED_MARGIN.sub(lambda found: blanks_of(found)[0], data), JOINED_MARGIN.sub(python_margin, data)
+    trees = [tree and ast.dump(tree) for tree, _ in map(python_tree, (data, theirs))]
+    outs = [program_outcome(program, (), source).out for source in (data, own)]
+    if trees[0] != trees[1] or outs[0] != outs[1] or not class_of(program, own, styles, False):
+        return None
+    return TAB if any(b"\t" in part for found in JOINED_MARGIN.finditer(data) for part in blanks_of(found)[:-1]) else JOIN
 
 
 def class_of(program, data, styles=STYLES, joins=True):
@@ -299,8 +317,7 @@ def class_of_outcome(program, data, mine, styles=STYLES, joins=True):
     else:
         found = REFUSED if told else None
     if found is None and joins and JOINED_MARGIN.search(data):
-        straight = JOINED_MARGIN.sub(by_first_margin, data)
-        found = JOIN if class_of(program, straight, styles, False) else None
+        found = class_of_joined(program, data, styles)
     return found
 
 
