@@ -12,7 +12,8 @@ failure, shown by the smallest input that has it. With --whole it is `pyast dump
 statement, and of f-strings only those with a string in a field that has a quote or a line end, and those with a `=` in a nested f-string.
 With --attributes each style is compared with the places of nodes; what stands in the fields of f-strings has its true places, which Python
 3.11 doesn't give, and a format spec that of its row of literals, so that there the trees are compared, without those places and in the
-plain style alone.
+plain style alone. Outside f-strings, of the nodes with one place each has to be directly below the one before; and the texts of some expressions
+have to be read as these.
 
 The exit status is 0 where every difference has a class, 1 where one has none, and 2 where nothing could be compared; with
 --or-skip it is 0 too where there is no Python 3.11.
@@ -265,6 +266,44 @@ def as_escapes(out):
     return text.translate(newer).encode("utf-8", "surrogatepass")
 
 
+def shown_by_itself(node):
+    """The dump of an expression, as it is read where its value is asked for."""
+    return re.sub(r"ctx=(?:Store|Del)\(\)", "ctx=Load()", ast.dump(node))
+
+
+def is_read_as(node, text):
+    """Whether the text of an expression's place is read as this expression; in brackets, as it may have line ends."""
+    try:
+        return shown_by_itself(ast.parse(b"(" + text + b"\n)", mode="eval").body) == shown_by_itself(node)
+    except (SyntaxError, ValueError):
+        return False
+
+
+def spans_are_lawful(tree, data, most=40):
+    """Whether of the nodes with one place each is directly below the one before, and the texts of some expressions are read as these. Nodes of f-strings
+    aren't asked, nor the texts of slices and of starred expressions, which are none by themselves."""
+    data = data.removeprefix(b"\xef\xbb\xbf")
+    starts = [0, *(found.end() for found in re.finditer(rb"\n", data))]
+    above, spans, expressions, nodes = {}, {}, [], [tree]
+    while nodes:
+        node = nodes.pop()
+        if isinstance(node, ast.JoinedStr):
+            continue
+        for child in ast.iter_child_nodes(node):
+            above[child] = node
+            nodes.append(child)
+        if hasattr(node, "lineno"):
+            span = starts[node.lineno - 1] + node.col_offset, starts[node.end_lineno - 1] + node.end_col_offset
+            spans.setdefault(span, []).append(node)
+            if isinstance(node, ast.expr) and not isinstance(node, (ast.Slice, ast.Starred)):
+                expressions.append((node, span))
+    if any(above[lower] is not upper for same in spans.values() for upper, lower in zip(same, same[1:])):
+        return False
+    asked = random.Random(len(data)).sample(expressions, min(most, len(expressions)))
+    asked = [(node, span) for node, span in asked if not any(isinstance(one, (ast.JoinedStr, ast.Slice)) for one in ast.walk(node))]
+    return all(is_read_as(node, data[first:last]) for node, (first, last) in asked)
+
+
 def class_of_tree(program, data, tree, plain, styles):
     """The class of a source that both accept: pyast's plain dump is given, the other styles are asked for."""
     outs = [plain, *(program_outcome(program, words, data) for words in list(styles)[1:])]
@@ -272,7 +311,7 @@ def class_of_tree(program, data, tree, plain, styles):
     if any(outcome.status != 0 or outcome.err for outcome in outs):
         return None
     if [outcome.out for outcome in outs] == due:
-        return SAME
+        return SAME if "include_attributes" not in styles[next(iter(styles))] or spans_are_lawful(tree, data) else None
     if "include_attributes" in styles[next(iter(styles))] and has_fstring(data) and same_but_fields(plain.out, tree):
         return SAME
     return NEWER if [as_escapes(outcome.out) for outcome in outs] == due else None
