@@ -3,8 +3,8 @@
 
     bench/shapes.py [PROGRAM [BYTES]]
 
-PROGRAM is a built pyast, by default that of this checkout, and BYTES the stack that `dump --whole` gets, by default 4,000,000. Each way is
-written with how often it was nested and the status. The exit status is 0, and 1 where one didn't end with status 0.
+PROGRAM is a built pyast, by default that of this checkout, and BYTES the stack that `dump --whole --attributes` and `unparse --whole` get, by
+default 4,200,000. Each way is written with how often it was nested and the two statuses. The exit status is 0, and 1 where one isn't 0.
 """
 
 import os
@@ -37,24 +37,25 @@ def in_fields(text, brackets):
     return "(" * 600 + "f'{" + "(" * 599 + 'f"{' + "(" * last + text + ")" * last + '}"' + ")" * 599 + "}'" + ")" * 600
 
 
-def status_of(program, size, source):
-    """The status of a dump in so many bytes of stack."""
+def status_of(program, words, size, source):
+    """The status of a command in so many bytes of stack."""
     limit = lambda: resource.setrlimit(resource.RLIMIT_STACK, (size, size))
-    words = [program, "dump", "--whole"]
-    return subprocess.run(words, input=source.encode(), stdout=subprocess.DEVNULL, stderr=subprocess.PIPE, preexec_fn=limit, check=False).returncode
+    return subprocess.run([program, *words], input=source.encode(), stdout=subprocess.DEVNULL, stderr=subprocess.PIPE, preexec_fn=limit, check=False).returncode
 
 
-def main(program=f"{TOP}/crates/pyast/out/pyast", size="4000000"):
+def main(program=f"{TOP}/crates/pyast/out/pyast", size="4200000"):
     failed = False
     for opening, closing, brackets, height in SHAPES:
-        status = 1
+        placed, written = 1, 1
         for count in range(495 // height, 0, -1):
             if brackets * count <= 599:
-                status = status_of(program, int(size), within(499, in_fields(opening * count + "x" + closing * count, brackets * count)))
-                if status != 1:
+                source = within(499, in_fields(opening * count + "x" + closing * count, brackets * count))
+                placed = status_of(program, ["dump", "--whole", "--attributes"], int(size), source)
+                if placed != 1:
+                    written = status_of(program, ["unparse", "--whole"], int(size), source)
                     break
-        failed |= status != 0
-        print(f"{opening + 'x' + closing:24} {count:4} levels, status {status}", flush=True)
+        failed |= placed != 0 or written != 0
+        print(f"{opening + 'x' + closing:24} {count:4} levels, statuses {placed} and {written}", flush=True)
     return int(failed)
 
 

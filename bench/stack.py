@@ -1,5 +1,5 @@
 #!/usr/bin/env python3
-"""Finds how much stack pyast's `dump` and `unparse` take on the deepest sources that they accept.
+"""Finds how much stack pyast's `dump`, `unparse` and `dump --attributes` take on the deepest sources that they accept.
 
     bench/stack.py [PROGRAM ..]
 
@@ -16,7 +16,7 @@ import tempfile
 
 from timers import built_program
 
-COMMANDS = ("dump", "unparse")
+COMMANDS = (("dump", "--whole"), ("unparse", "--whole"), ("dump", "--whole", "--attributes"))
 # The stack that a login shell gives, and how close the least is found, in bytes.
 STACK, STEP = 8 << 20, 4 << 10
 
@@ -58,21 +58,21 @@ def sources():
     yield "499 nested `match`", "".join(f"{' ' * 2 * i}match x:\n{' ' * (2 * i + 1)}case _:\n" for i in range(499)) + " " * 998 + "pass\n"
 
 
-def ends_well(program, command, file, stack):
+def ends_well(program, words, file, stack):
     """Whether a run with so much stack ends with status 0."""
     limit = lambda: resource.setrlimit(resource.RLIMIT_STACK, (stack, stack))
-    done = subprocess.run([program, command, "--whole", file], stdout=subprocess.DEVNULL, stderr=subprocess.DEVNULL, preexec_fn=limit, check=False)
+    done = subprocess.run([program, *words, file], stdout=subprocess.DEVNULL, stderr=subprocess.DEVNULL, preexec_fn=limit, check=False)
     return done.returncode == 0
 
 
-def least_stack(program, command, file):
+def least_stack(program, words, file):
     """The least stack, to STEP, with which a run ends well, or None where a login shell's is too little."""
     low, high = 0, STACK // STEP
-    if not ends_well(program, command, file, STACK):
+    if not ends_well(program, words, file, STACK):
         return None
     while high - low > 1:
         middle = (low + high) // 2
-        low, high = (low, middle) if ends_well(program, command, file, middle * STEP) else (middle, high)
+        low, high = (low, middle) if ends_well(program, words, file, middle * STEP) else (middle, high)
     return high * STEP
 
 
@@ -85,7 +85,7 @@ def main():
         with tempfile.NamedTemporaryFile("w", suffix=".py") as file:
             file.write(text)
             file.flush()
-            found = [least_stack(program, command, file.name) for program in programs for command in COMMANDS]
+            found = [least_stack(program, words, file.name) for program in programs for words in COMMANDS]
         status |= None in found
         shown = "  ".join("too much" if one is None else f"{one >> 10:,} KB".rjust(9) for one in found)
         print(f"{name:<30}{shown}", flush=True)

@@ -12,7 +12,8 @@ failure, shown by the smallest input that has it. With --whole it is `pyast dump
 statement, and of f-strings only those with a string in a field that has a quote or a line end, and those with a `=` in a nested f-string.
 With --attributes each style is compared with the places of nodes; what stands in the fields of f-strings has its true places, which Python
 3.11 doesn't give, and a format spec that of its row of literals, so that there the trees are compared, without those places and in the
-plain style alone.
+plain style alone. Outside f-strings, of the nodes with one place each has to be directly below the one before; and the texts of some expressions
+have to be read as these.
 
 The exit status is 0 where every difference has a class, 1 where one has none, and 2 where nothing could be compared; with
 --or-skip it is 0 too where there is no Python 3.11.
@@ -42,7 +43,7 @@ FAULT_LINE = re.compile(r"<stdin>:(\d+):(\d+): error: (.*)\n")
 OCTAL_IN_BYTES = re.compile(rb"\\[4-7][0-7][0-7]")
 # A backslash with what it takes along, or another byte.
 UNIT = re.compile(rb"\\[0-7]{1,3}|\\.|[^\\]", re.DOTALL)
-JOINED_MARGIN = re.compile(rb"^([ \t\f]*)\\\r?\n([ \t\f]*)", re.MULTILINE)
+JOINED_MARGIN = re.compile(rb"^[ \t\f]*(?:\\\r?\n[ \t\f]*)+", re.MULTILINE)
 MARGIN = re.compile(r"[ \t\f]*")
 ANNOTATED = re.compile(rb"AnnAssign\(target=(Attribute|Subscript)\(")
 HIGHEST = 500
@@ -66,6 +67,7 @@ TARGET = "annotated target with a front in brackets"
 NAMES = "identifier characters"
 NEWER = "characters newer than Unicode 14"
 JOIN = "line that begins with a join"
+TAB = "tab before a join that begins a line"
 
 # The classes, in the order of the table, each with a source that has to fall into it.
 SAMPLES = {
@@ -90,6 +92,7 @@ SAMPLES = {
     NAMES: "a\u30fbb\n".encode(),
     NEWER: "'\U0001fae8'\n".encode(),
     JOIN: b"if x:\n y\n\\\n z\n",
+    TAB: b"if x:\n\t\\\ny\n\tz\n",
 }
 LEFT_OUT = {"Float": (FLOAT, "float literal"), "Complex": (COMPLEX, "complex literal"), "FString": (FSTRING, "f-string"),
             "IntegerTooLarge": (LARGE, "integer too large"), "NamedEscape": (NAMED, "named escape"), "Match": (MATCH, "match statement")}
@@ -263,6 +266,44 @@ def as_escapes(out):
     return text.translate(newer).encode("utf-8", "surrogatepass")
 
 
+def shown_by_itself(node):
+    """The dump of an expression, as it is read where its value is asked for."""
+    return re.sub(r"ctx=(?:Store|Del)\(\)", "ctx=Load()", ast.dump(node))
+
+
+def is_read_as(node, text):
+    """Whether the text of an expression's place is read as this expression; in brackets, as it may have line ends."""
+    try:
+        return shown_by_itself(ast.parse(b"(" + text + b"\n)", mode="eval").body) == shown_by_itself(node)
+    except (SyntaxError, ValueError):
+        return False
+
+
+def spans_are_lawful(tree, data, most=40):
+    """Whether of the nodes with one place each is directly below the one before, and the texts of some expressions are read as these. Nodes of f-strings
+    aren't asked, nor the texts of slices and of starred expressions, which are none by themselves."""
+    data = data.removeprefix(b"\xef\xbb\xbf")
+    starts = [0, *(found.end() for found in re.finditer(rb"\n", data))]
+    above, spans, expressions, nodes = {}, {}, [], [tree]
+    while nodes:
+        node = nodes.pop()
+        if isinstance(node, ast.JoinedStr):
+            continue
+        for child in ast.iter_child_nodes(node):
+            above[child] = node
+            nodes.append(child)
+        if hasattr(node, "lineno"):
+            span = starts[node.lineno - 1] + node.col_offset, starts[node.end_lineno - 1] + node.end_col_offset
+            spans.setdefault(span, []).append(node)
+            if isinstance(node, ast.expr) and not isinstance(node, (ast.Slice, ast.Starred)):
+                expressions.append((node, span))
+    if any(above[lower] is not upper for same in spans.values() for upper, lower in zip(same, same[1:])):
+        return False
+    asked = random.Random(len(data)).sample(expressions, min(most, len(expressions)))
+    asked = [(node, span) for node, span in asked if not any(isinstance(one, (ast.JoinedStr, ast.Slice)) for one in ast.walk(node))]
+    return all(is_read_as(node, data[first:last]) for node, (first, last) in asked)
+
+
 def class_of_tree(program, data, tree, plain, styles):
     """The class of a source that both accept: pyast's plain dump is given, the other styles are asked for."""
     outs = [plain, *(program_outcome(program, words, data) for words in list(styles)[1:])]
@@ -270,15 +311,31 @@ def class_of_tree(program, data, tree, plain, styles):
     if any(outcome.status != 0 or outcome.err for outcome in outs):
         return None
     if [outcome.out for outcome in outs] == due:
-        return SAME
+        return SAME if "include_attributes" not in styles[next(iter(styles))] or spans_are_lawful(tree, data) else None
     if "include_attributes" in styles[next(iter(styles))] and has_fstring(data) and same_but_fields(plain.out, tree):
         return SAME
     return NEWER if [as_escapes(outcome.out) for outcome in outs] == due else None
 
 
-def by_first_margin(found):
-    """What Python takes for the margin of a line that begins with a join: that before the join, or that after it where there is none."""
-    return found[1] or found[2]
+def blanks_of(found):
+    """The blanks before each join that a line begins with, and those after the last."""
+    return re.split(rb"\\\r?\n", found[0])
+
+
+def python_margin(found):
+    """What Python takes for the margin of such a line: the first of these that have a width, a tab as eight columns in both counts, or the last."""
+    *before, last = blanks_of(found)
+    return next(filter(None, (part.rpartition(b"\f")[2].expandtabs(8) for part in before)), last)
+
+
+def class_of_joined(program, data, styles):
+    """The class of a source with lines that begin with a join, or None: pyast measures such a line by its own blanks, Python as said above."""
+    own, theirs = JOINED_MARGIN.sub(lambda found: blanks_of(found)[0], data), JOINED_MARGIN.sub(python_margin, data)
+    trees = [tree and ast.dump(tree) for tree, _ in map(python_tree, (data, theirs))]
+    outs = [program_outcome(program, (), source).out for source in (data, own)]
+    if trees[0] != trees[1] or outs[0] != outs[1] or not class_of(program, own, styles, False):
+        return None
+    return TAB if any(b"\t" in part for found in JOINED_MARGIN.finditer(data) for part in blanks_of(found)[:-1]) else JOIN
 
 
 def class_of(program, data, styles=STYLES, joins=True):
@@ -299,8 +356,7 @@ def class_of_outcome(program, data, mine, styles=STYLES, joins=True):
     else:
         found = REFUSED if told else None
     if found is None and joins and JOINED_MARGIN.search(data):
-        straight = JOINED_MARGIN.sub(by_first_margin, data)
-        found = JOIN if class_of(program, straight, styles, False) else None
+        found = class_of_joined(program, data, styles)
     return found
 
 

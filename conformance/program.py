@@ -1,6 +1,7 @@
 #!/usr/bin/env python3
 """Runs the built program where no contract can say what has to hold: its words, files, statuses and lines of faults, as a shell sees them; how
-it reads and writes, at a terminal too; that memory, and 4 MB of stack, suffice past every round number.
+it reads and writes, at a terminal too; that it gives back the memory of trees that it lets go; that memory, and 4.2 MB of stack, suffice past
+every round number.
 
     conformance/program.py [--program PATH]
 
@@ -9,8 +10,10 @@ fails, and 2 where the program isn't there.
 """
 
 import argparse
+import contextlib
 import os
 import pty
+import re
 import resource
 import select
 import subprocess
@@ -23,6 +26,8 @@ from common import PROGRAM, Count, run
 # The memory within which a source of any length is listed, in bytes, the program and the C library with it.
 MEMORY = 12 << 20
 DUMP_MEMORY = 68 << 20
+# The stack that suffices for each command with each of its options, in bytes.
+STACK = 4_200_000
 # The seconds within which an answer has to come that waits for nothing.
 SOON = 20
 LISTING = """\
@@ -34,6 +39,8 @@ LISTING = """\
 2,0-2,0:            ENDMARKER      ''             
 """
 DUMP = "Module(body=[Assign(targets=[Name(id='x', ctx=Store())], value=Constant(value=1))], type_ignores=[])\n"
+# What the help of dump and of unparse has to name: what is refused, and the limits.
+LIMITS = ("\\N{..}", "2**128", "4,300 digits", "600 open brackets", "500 nested expressions or statements")
 
 
 class Checks(Count):
@@ -61,6 +68,9 @@ def check_words(checks):
         named = {"tokens", "dump", "unparse"} if len(words) == 1 else {"Usage: pyast", "FILE"}
         text = outcome.out.decode()
         checks.is_due(" ".join(words), (outcome.status, outcome.err, sorted(one for one in named if one not in text)), (0, b"", []))
+    for words in (["help", "dump"], ["dump", "-h"], ["help", "unparse"], ["unparse", "--help"]):
+        text = " ".join(run([checks.program, *words]).out.decode().split())
+        checks.is_due(f"{' '.join(words)}: the limits", [one for one in LIMITS if one not in text], [])
     for words in (["--version"], ["-V"]):
         checks.ends(words, (0, "pyast 1.1.0\n", ""))
     bad = ([], ["x.py"], ["frob"], ["dump", "-c", "x"], ["dump", "a", "b"], ["dump", "--indent", "17"], ["tokens", "--whole"], ["tokens", "--count", "1000000001"], ["tokens", "--version"])
@@ -73,17 +83,22 @@ def check_words(checks):
 def check_files(checks):
     """A source by its name, beside others of similar names, and files that can't be read."""
     with tempfile.TemporaryDirectory() as folder:
-        for name, text in (("a.py", "x = 1\n"), ("a.p", "y\n"), (" a.py", "z\n"), ("a.py ", "z\n"), ("-", "x = 1\n"), ("bad.py", "if x:\n    y = (1 +\n")):
+        # The longest name that a file can have.
+        longest = "n" * 252 + ".py"
+        near = (" a.py", "a.py ", "a.py~", "~a.py", "a.py.", "A.py")
+        bad = "if x:\n    y = (1 +\n"
+        for name, text in (("a.py", "x = 1\n"), ("a.p", "y\n"), *((one, "z\n") for one in near), ("-", "x = 1\n"), ("bad.py", bad), (longest, bad)):
             with open(os.path.join(folder, name), "w", encoding="utf-8") as file:
                 file.write(text)
         for name in ("a.py", "./a.py", "-", os.path.join(folder, "a.py")):
             checks.ends(["tokens", name], (0, LISTING, ""), b"w\n", cwd=folder)
             checks.ends(["dump", name], (0, DUMP, ""), b"w\n", cwd=folder)
             checks.ends(["unparse", name], (0, "x = 1\n", ""), b"w\n", cwd=folder)
-        for name in (" a.py", "a.py "):
+        for name in near:
             checks.ends(["unparse", name], (0, "z\n", ""), b"w\n", cwd=folder)
         for command in ("tokens", "dump", "unparse"):
-            checks.ends([command, "bad.py"], (1, None, "bad.py:3:0: error: EOF in multi-line statement\n"), cwd=folder)
+            for name in ("bad.py", longest):
+                checks.ends([command, name], (1, None, f"{name}:3:0: error: EOF in multi-line statement\n"), cwd=folder)
             checks.ends([command, "none.py"], (3, "", "pyast: cannot open file\n"), cwd=folder)
             checks.ends([command, "."], (3, "", "pyast: read failed\n"), cwd=folder)
             checks.ends([command, "--", "none.py"], (3, "", "pyast: cannot open file\n"), cwd=folder)
@@ -110,11 +125,13 @@ def wait_for(process, size):
     return written
 
 
-def open_pipe(checks, words, data):
+def open_pipe(checks, words, data, to=subprocess.PIPE, told=subprocess.DEVNULL):
     """A run whose input stays open after some bytes."""
-    process = subprocess.Popen([checks.program, *words], stdin=subprocess.PIPE, stdout=subprocess.PIPE, stderr=subprocess.DEVNULL)
-    process.stdin.write(data)
-    process.stdin.flush()
+    process = subprocess.Popen([checks.program, *words], stdin=subprocess.PIPE, stdout=to, stderr=told)
+    # A run may end before it has read them.
+    with contextlib.suppress(BrokenPipeError):
+        process.stdin.write(data)
+        process.stdin.flush()
     return process
 
 
@@ -149,6 +166,38 @@ def check_streams(checks):
     check_memory(checks, "a dump isn't held whole", "dump", b"x = f(a, b=1)\n" * 100_000, DUMP_MEMORY)
 
 
+def check_open_pipes(checks):
+    """What ends a run ends it though its input stays open: nothing more is read after a fault, a failed write, or words that give no command."""
+    lines = b"x = 1\n" * 10_000
+    cases = [(["tokens"], b"# x\n" + fault + b"\n", (1, f"<stdin>:{at}: error: {text}\n")) for fault, at, text in (
+        (b"x $", "2:2", "unexpected character"), (b"x )", "2:2", "unmatched closing bracket"), (b"x = 'a", "2:4", "unterminated string literal"),
+        (b"if a:\n  b\n c", "4:1", "unindent does not match any outer indentation level"), (b"a\xff", "2:1", "invalid UTF-8"),
+        (b"a\rb", "2:1", "carriage return without line feed"), (b"# coding: latin-1", "2:0", "unsupported encoding"))]
+    cases += [(["tokens", "--count", "100"], b"x $\n", (1, "<stdin>:1:2: error: unexpected character\n")),
+              (["tokens", "--resume", "pytok1 1 2 3"], b"x\n", (2, "pyast: malformed cursor\n")),
+              (["tokens", "--resume", "pytok1 2 1 1 0 0 0 0"], b"yes\n", (2, "pyast: cursor of another source\n")),
+              *(([command, "--frob"], b"x\n", (2, "pyast: bad arguments\n")) for command in ("tokens", "dump", "unparse")),
+              (["dump", "none.py"], b"x\n", (3, "pyast: cannot open file\n"))]
+    for words, data, due in cases:
+        process = open_pipe(checks, words, data, to=subprocess.DEVNULL, told=subprocess.PIPE)
+        checks.is_due(f"{' '.join(words)} of {data[:20]!r} on an open pipe", (ended(process), process.stderr.read().decode()), due)
+        process.stderr.close()
+        with contextlib.suppress(BrokenPipeError):
+            process.stdin.close()
+    ended_reader = os.pipe()
+    os.close(ended_reader[0])
+    with open("/dev/full", "wb") as full:
+        for name, to in (("a full disk", full), ("a reader that has ended", ended_reader[1])):
+            for data, words in ((lines, ["tokens"]), (b"x\n", ["tokens", "--count", "1"]), (b"x $\n", ["tokens"])):
+                process = open_pipe(checks, words, data, to=to, told=subprocess.PIPE)
+                found = (ended(process), process.stderr.read())
+                checks.is_due(f"{' '.join(words)} of {len(data)} bytes on an open pipe to {name}", found, (3, b"pyast: write failed\n"))
+                process.stderr.close()
+                with contextlib.suppress(BrokenPipeError):
+                    process.stdin.close()
+    os.close(ended_reader[1])
+
+
 def check_terminal(checks):
     """At a terminal one end of input, which Ctrl-D gives at the start of a line, ends each command: no read follows it."""
     for typed, texts in ((b"x = 1\n", (LISTING, DUMP, "x = 1\n")), (b"", (None, "Module(body=[], type_ignores=[])\n", ""))):
@@ -173,6 +222,72 @@ def check_memory(checks, what, command, source, size):
         checks.is_due(what, done.returncode, 0)
 
 
+# --- memory that is given back ------------------------------------------------------------------------------------------
+
+# Lines whose forms are let go as they are read: all kinds of expressions, patterns' values and simple statements, and headers.
+LINES = """\
+f(a, *b, c=d, **e)|x = y = 1|[a, *b]|(a, b)|{a, b}|{a: b, **c}|lambda a, /, b=c, *d, e=f, **g: h|[a for b in c if d]|{a for b in c}|{a: b for c in d}|\
+(a async for b in c)|a.b.c|a[b:c:d]|a[b, c]|a if b else c|a < b <= c|not a|-a|a and b or c|a + b * c|(a := b)|await a|yield a|yield|(yield from a)|\
+'a text that has no room in its node'|b'some bytes'|123456789012345678901234567890|1.5|2j|...|a_name_that_has_no_room_in_its_node|\
+f'a{b!r:>{c}}d{e=}'|u'a' f'{b}'|x: int = 1|x: int|x += 1|del a, b[c]|global a, b|nonlocal a|import a.b as c, d|from .a import b as c, d|from a import *|\
+return a|return|raise a from b|assert a, b|pass|break|continue|type A[B: c, *D, **E] = f|def f(a: b = c, *d, **e) -> g: h|async def f(): pass|\
+class A[B](c, d=e): f|if a: b|while a: b|for a in b: c|with a as b, c: d|@a|else: a""".replace("\n", "").split("|")
+# Statements that are kept until a line is faulty, and let go then.
+BLOCKS = {
+    "def": "@a\ndef f(b, *c, d=e, **g) -> h:\n return i\n", "async def": "async def f(a=b):\n await c\n", "class": "@a\nclass B(c, d=e):\n f = 1\n",
+    "if": "if a:\n b\nelif c:\n d\nelse:\n e\n", "while": "while a:\n b\nelse:\n c\n", "for": "for a, b in c:\n d\nelse:\n e\n",
+    "with": "with a as b, c:\n d\n", "try": "try:\n a\nexcept b as c:\n d\nelse:\n e\nfinally:\n f\n", "try star": "try:\n a\nexcept* b as c:\n d\n",
+    "match": "match a:\n case [b, *c] | {1: d, **e} | f(g, h=i) if j:\n  k\n", "async for": "async def f():\n async for a in b:\n  c\n",
+    "async with": "async def f():\n async with a:\n  c\n", "parameters of types": "def f[A: b, *C, **D](): pass\n", "simple": "x = f(a, b=[c])\nimport d as e\n",
+}
+
+
+def peak_of(checks, source):
+    """The most memory that `dump` holds of a source with a faulty line, in bytes, and its status: seen while it can't write that line."""
+    told, fault = os.pipe()
+    os.set_blocking(fault, False)
+    for size in (4096, 1):
+        with contextlib.suppress(BlockingIOError):
+            while True:
+                os.write(fault, b"." * size)
+    os.set_blocking(fault, True)
+    with tempfile.NamedTemporaryFile() as file:
+        file.write(source)
+        file.flush()
+        words = [checks.program, "dump", "--whole", "--py312", file.name]
+        process = subprocess.Popen(words, stdout=subprocess.DEVNULL, stderr=fault)
+        os.close(fault)
+        late = time.monotonic() + SOON
+        while True:
+            with open(f"/proc/{process.pid}/status", encoding="ascii") as status:
+                text = status.read()
+            if re.search(r"^State:\s*[SZ]", text, re.M) or time.monotonic() > late:
+                break
+            time.sleep(0.002)
+        os.close(told)
+        process.wait()
+    found = re.search(r"^VmHWM:\s*(\d+) kB", text, re.M)
+    return int(found[1]) << 10 if found else 0
+
+
+def check_given_back(checks):
+    """A tree that is let go gives back its memory: after a faulty line forms are read and let go, and what was kept before it is."""
+    first = b"x\n  y\n"
+    many = "".join(f"{line}\n" for line in LINES).encode() * 20_000
+    noted = re.sub(rb"(?m)^.", b"#", many)
+    # One part of 24 bytes in each line of one kind that isn't given back takes 640 KB.
+    more = peak_of(checks, first + many) - peak_of(checks, first + noted)
+    checks.is_due(f"the memory of {many.count(10)} lines is given back", more < 480 << 10 or f"{more} bytes more than for comments", True)
+    alone = peak_of(checks, first)
+    call = (peak_of(checks, first + b"[" + b"f(a, b=1), " * 20_000 + b"]\n") - alone) / 20_000
+    for name, block in BLOCKS.items():
+        kept = peak_of(checks, block.encode() * 20_000 + first)
+        # A line that takes less than was let go before it, so that it needs no more room.
+        line = b"[" + b"f(a, b=1), " * int(0.7 * (kept - alone) / call) + b"]\n"
+        share = (peak_of(checks, block.encode() * 20_000 + first + line) - kept) / (kept - alone)
+        checks.is_due(f"the memory of 20,000 statements ({name}) is given back", share < 0.2 or f"{share:.2f} of it more is needed", True)
+
+
 # --- large sources ------------------------------------------------------------------------------------------------------
 
 
@@ -190,10 +305,10 @@ def check_large(checks):
     one = "Assign(targets=[Name(id='x', ctx=Store())], value=Constant(value=1))"
     checks.ends(["dump"], (0, f"Module(body=[{', '.join([one] * rows)}], type_ignores=[])\n", ""), source)
     checks.ends(["unparse"], (0, source.decode(), ""), source)
-    for command in ("dump", "unparse", "tokens"):
-        checks.ends([command], (1, None, f"<stdin>:{rows + 1}:0: error: unmatched closing bracket\n"), source + b")\n")
-        checks.ends([command], (1, None, "<stdin>:1:2200001: error: unexpected character\n"), (b" " if command == "tokens" else b"x") * 2_200_001 + b"$\n")
-        checks.ends([command], (1, None, f"<stdin>:{rows + 1}:12345: error: unexpected character\n"), source + b"x" * 12_345 + b"?\n")
+    for words in (["dump"], ["unparse"], ["tokens"], ["dump", "--whole", "--attributes"], ["unparse", "--whole"]):
+        checks.ends(words, (1, None, f"<stdin>:{rows + 1}:0: error: unmatched closing bracket\n"), source + b")\n")
+        checks.ends(words, (1, None, "<stdin>:1:2200001: error: unexpected character\n"), (b" " if words == ["tokens"] else b"x") * 2_200_001 + b"$\n")
+        checks.ends(words, (1, None, f"<stdin>:{rows + 1}:12345: error: unexpected character\n"), source + b"x" * 12_345 + b"?\n")
     with tempfile.TemporaryFile() as file:
         file.write(b"abc + " * 200_000 + b"x\n")
         file.seek(0)
@@ -213,8 +328,76 @@ def check_large(checks):
     outcome = run([checks.program, "tokens"], input=nested.encode())
     found = outcome.out.decode()
     checks.is_due("tokens of 1,001 levels", (outcome.status, found.count(": INDENT "), found.count("INDENT  "), found.count("DEDENT  ")), (0, 0, levels, levels))
-    for command in ("dump", "unparse"):
-        checks.ends([command], (1, "", "<stdin>:501:500: error: too deep\n"), nested.encode())
+    for words in (["dump"], ["unparse"], ["dump", "--attributes"]):
+        checks.ends(words, (1, "", "<stdin>:501:500: error: too deep\n"), nested.encode())
+
+
+def placed(node, row, column, end_row, end_column):
+    """A node, less its last bracket, as it is shown with its place."""
+    return f"{node}, lineno={row}, col_offset={column}, end_lineno={end_row}, end_col_offset={end_column})"
+
+
+def named(name, row, column):
+    """A name as it is shown with its place."""
+    return placed(f"Name(id='{name}', ctx=Load()", row, column, row, column + len(name))
+
+
+def expression(node, row, end_column):
+    """The dump of a source whose last row is this expression from column 0 on, with places."""
+    return f"Module(body=[{placed(f'Expr(value={node}', row, 0, row, end_column)}], type_ignores=[])\n"
+
+
+def check_large_places(checks):
+    """Places past every round number: of rows, columns, nodes, bytes and levels."""
+    words, rows = ["dump", "--attributes"], 100_001
+    one = "Assign(targets=[Name(id='x', ctx=Store(), {0}1)], value=Constant(value=1, {1}5), {0}5)"
+    part = "lineno={0}, col_offset={1}, end_lineno={0}, end_col_offset="
+    due = ", ".join(one.format(part.format(row, 0), part.format(row, 4)) for row in range(1, rows + 1))
+    checks.ends(words, (0, f"Module(body=[{due}], type_ignores=[])\n", ""), b"x = 1\n" * rows)
+    # A million and one names, in columns past 2,000,000.
+    names = ", ".join(named("a", 1, 2 * i + 1) for i in range(1_000_001))
+    end = 2_000_004
+    due = expression(placed(f"List(elts=[{names}], ctx=Load()", 1, 0, 1, end), 1, end)
+    checks.ends(words, (0, due, ""), b"[" + b"a," * 1_000_001 + b"]\n")
+    # Names after 17 MB of comments, and after a text as long.
+    checks.ends(words, (0, expression(named("x", 170_001, 0), 170_001, 1), ""), (b"#" + b"c" * 98 + b"\n") * 170_000 + b"x\n")
+    long = "t" * 17_000_000
+    due = placed(f"Tuple(elts=[{placed(f'Constant(value={long!r}', 1, 0, 1, 17_000_002)}, {named('x', 1, 17_000_004)}], ctx=Load()", 1, 0, 1, 17_000_005)
+    checks.ends(words, (0, expression(due, 1, 17_000_005), ""), f"{long!r}, x\n".encode())
+    tree = placed("Pass(", 500, 499, 500, 503).replace("(, ", "(")
+    for row in range(499, 0, -1):
+        tree = placed(f"If(test={named('x', row, row + 2)}, body=[{tree}], orelse=[]", row, row - 1, 500, 503)
+    checks.ends(words, (0, f"Module(body=[{tree}], type_ignores=[])\n", ""), within(499, "pass").encode())
+
+
+def check_large_whole(checks):
+    """The whole language past every round number: fields, texts and specs of f-strings, digits, cases, patterns and keys; with places too."""
+    rows = 100_001
+    fields, end = "a{x}" * rows, 4 * rows + 3
+    part = "Constant(value='a'), FormattedValue(value=Name(id='x', ctx=Load()), conversion=-1)"
+    checks.ends(["unparse", "--whole"], (0, f"f'{fields}'\n", ""), f"f'{fields}'\n".encode())
+    checks.ends(["dump", "--whole"], (0, f"Module(body=[Expr(value=JoinedStr(values=[{', '.join([part] * rows)}]))], type_ignores=[])\n", ""), f"f'{fields}'\n".encode())
+    text = placed("Constant(value='a'", 1, 0, 1, end)
+    parts = (f"{text}, {placed(f'FormattedValue(value={named(chr(120), 1, 4 * i + 4)}, conversion=-1', 1, 0, 1, end)}" for i in range(rows))
+    checks.ends(["dump", "--whole", "--attributes"], (0, expression(placed(f"JoinedStr(values=[{', '.join(parts)}]", 1, 0, 1, end), 1, end), ""), f"f'{fields}'\n".encode())
+    specs = "f'{x:" + "{y}" * rows + "}'\n"
+    checks.ends(["unparse", "--whole"], (0, specs, ""), specs.encode())
+    many = "f'{x}'\n" * rows
+    checks.ends(["unparse", "--whole"], (0, many, ""), many.encode())
+    long = "t" * 1_100_000
+    for body in (long + "{x}" + long, "{" + long + "}", "{x:" + long + "}"):
+        checks.ends(["unparse", "--whole"], (0, f"f'{body}'\n", ""), f"f'{body}'\n".encode())
+    checks.ends(["unparse", "--whole"], (0, "(1.0, 0.0, 1e309, 1j)\n".replace("(", "").replace(")", ""), ""), ("1." + "0" * rows + ", 0." + "0" * rows + "1, 1e" + "9" * rows + ", 1" + ".0" * 1 + "0" * rows + "j\n").encode())
+    cases = "match x:\n" + "    case 1:\n        pass\n" * rows
+    checks.ends(["unparse", "--whole"], (0, cases, ""), cases.encode())
+    case = "match_case(pattern=MatchValue(value=Constant(value=1)), body=[Pass()])"
+    checks.ends(["dump", "--whole"], (0, f"Module(body=[Match(subject=Name(id='x', ctx=Load()), cases=[{', '.join([case] * rows)}])], type_ignores=[])\n", ""), cases.encode())
+    for pattern in (" | ".join(["1"] * rows), ", ".join(["a"] * rows), f"{{{', '.join(['1: _'] * rows)}}}", f"A({', '.join(['_'] * rows)})", f"A({', '.join(['a=_'] * rows)})"):
+        matches = f"match x:\n    case {pattern}:\n        pass\n"
+        checks.ends(["unparse", "--whole"], (0, matches, ""), matches.encode())
+    for source, at in ((b"x = 1.5\n" * rows, f"{rows + 1}:0"), (b"f'{x}'\n" * rows, f"{rows + 1}:0"), (f"f'{fields}'".encode() + b" ", f"1:{end + 1}")):
+        for words in (["dump", "--whole"], ["dump", "--whole", "--attributes"], ["unparse", "--whole"]):
+            checks.ends(words, (1, None, f"<stdin>:{at}: error: f-string\n"), source + b"f'{}'\n")
 
 
 # --- the stack ----------------------------------------------------------------------------------------------------------
@@ -232,7 +415,7 @@ def in_fields(most, within, brackets=0):
 
 
 def check_stack(checks):
-    """4 MB of stack suffice for the deepest sources, and for those that are too deep by one."""
+    """STACK bytes suffice for the deepest sources, and for those that are too deep by one, by each command with each of its options."""
     deepest = {
         "brackets": ("(" * 600 + "x" + ")" * 600 + "\n", "(" * 601 + "x" + ")" * 601 + "\n"),
         "yields": ("[(yield " * 249 + "x" + ")]" * 249 + "\n", "[(yield " * 251 + "x" + ")]" * 251 + "\n"),
@@ -251,20 +434,23 @@ def check_stack(checks):
         "defaults in fields": tuple(within(499, in_fields(599, "lambda a=" * count + "x" + ": x" * count)) for count in (495, 496)),
         "comprehensions in fields": tuple(within(499, in_fields(599, "[x for x in " * count + "x" + "]" * count, count)) for count in (495, 496)),
     }
-    check_stack_of(checks, deepest, 4_000_000, [])
-    check_stack_of(checks, in_field, 4_000_000, ["--whole"])
+    check_stack_of(checks, deepest, [])
+    check_stack_of(checks, in_field, ["--whole"])
 
 
-def check_stack_of(checks, sources, size, words):
-    """So many bytes of stack suffice for each pair of an accepted source and one that is too deep by one, by `dump` and `unparse` with these words."""
-    stack = lambda: resource.setrlimit(resource.RLIMIT_STACK, (size, size))
+def check_stack_of(checks, sources, extent):
+    """The stack suffices for each pair of an accepted source and one that is too deep by one, by each command with these words and each option."""
+    stack = lambda: resource.setrlimit(resource.RLIMIT_STACK, (STACK, STACK))
+    ways = ([], ["--attributes"], ["--indent", "16"], ["--bare"], ["--py312"], ["--attributes", "--bare", "--indent", "16", "--py312"])
+    listings = ([], ["-e"], ["--count", "1000000"], ["--resume", "pytok1 1 0 1 0 0 0 0"])
     for name, (accepted, refused) in sources.items():
-        for command in ("dump", "unparse"):
-            for source, status in ((accepted, 0), (refused, 1)):
-                outcome = run([checks.program, command, *words], input=source.encode(), preexec_fn=stack)
-                checks.is_due(f"{command} of {name}, in {size} bytes of stack", outcome.status, status)
-        outcome = run([checks.program, "tokens"], input=refused.encode(), preexec_fn=stack)
-        checks.is_due(f"tokens of {name}, in {size} bytes of stack", outcome.status, 0)
+        runs = [(["dump", *way, *extent], accepted, 0) for way in ways]
+        runs += [(["unparse", *way, *extent], accepted, 0) for way in ([], ["--py312"])]
+        runs += [([*words, *extent], refused, 1) for words in (["dump"], ["dump", "--attributes"], ["unparse"])]
+        runs += [(["tokens", *way], refused, 0) for way in listings]
+        for words, source, status in runs:
+            outcome = run([checks.program, *words], input=source.encode(), preexec_fn=stack)
+            checks.is_due(f"{' '.join(words)} of {name}, in {STACK} bytes of stack", outcome.status, status)
 
 
 def main():
@@ -274,7 +460,8 @@ def main():
     if not os.access(checks.program, os.X_OK):
         print(f"program.py: {checks.program} isn't there", file=sys.stderr)
         return 2
-    for part in (check_words, check_files, check_streams, check_terminal, check_large, check_stack):
+    parts = (check_words, check_files, check_streams, check_open_pipes, check_terminal, check_given_back, check_large, check_large_places, check_large_whole, check_stack)
+    for part in parts:
         part(checks)
     return checks.end()
 

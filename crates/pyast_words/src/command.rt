@@ -447,9 +447,9 @@ impl Command {
     /// The command that the words give, without the program's name.
     ///
     /// They are `tokens [-e] [--count N] [--resume CURSOR] [FILE]`, `dump [--indent N] [--bare]
-    /// [--py312] [--whole] [FILE]` or `unparse [--py312] [--whole] [FILE]`, with the options in any
-    /// order. All others are bad arguments, but for those that ask for help, `help`, `-h` and
-    /// `--help`, or for the program's version, `-V` and `--version`.
+    /// [--attributes] [--py312] [--whole] [FILE]` or `unparse [--py312] [--whole] [FILE]`, with the
+    /// options in any order. All others are bad arguments, but for those that ask for help, `help`,
+    /// `-h` and `--help`, or for the program's version, `-V` and `--version`.
     ///
     /// # Errors
     ///

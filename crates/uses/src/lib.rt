@@ -4,8 +4,8 @@
 //! [`first_comment`] one that is read line by line; with [`kept`] a listing stops, and with
 //! [`resumed`] it is resumed. [`dumped`] and [`rewritten`] write what a source's tree is, and
 //! [`assignment_text`] one that is made by hand. [`tree_of_bytes`] takes the fault of each layer,
-//! and [`described`] reports it. [`spans_around`] finds the nodes that stand around a byte, and
-//! [`first_text`] the text of the innermost.
+//! and [`described`] reports it. [`spans_around`] finds the nodes around a byte, and [`first_text`]
+//! the text of the first of them.
 #![tactic(auto)]
 
 mod assignments;

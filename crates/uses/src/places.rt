@@ -16,7 +16,8 @@ fn holds(span: Span, byte: u32) -> bool
     span.from <= byte && byte < span.to
 }
 
-/// The spans of the nodes that stand around a byte of the source, the innermost first.
+/// The spans of the nodes around a byte of the source, in the order of the dump: outside f-strings
+/// the innermost first.
 pub fn spans_around(alloc: Global, places: &Places, byte: u32) -> Result<Vec<Span>, AllocError>
     ensures { IfOk result
         (λ found. map told found.items ≡ filter (holds byte) places.now.spans) }

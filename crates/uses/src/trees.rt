@@ -28,7 +28,8 @@ pub fn dumped(alloc: Global, source: &Source, style: Style) -> Result<String, Pa
     Ok(dump(alloc, &tree, style)?)
 }
 
-/// Source text for the tree of a source, with the fewest brackets and no comments.
+/// Source text for the tree of a source: no comments, and the fewest brackets, but for those round
+/// a whole field of an f-string.
 pub fn rewritten(alloc: Global, source: &Source, profile: Profile) -> Result<String, ParseFault>
     ensures written { IfOk result
         (λ text. IsWritten profile (in_characters source.now) (string_bytes text)) }
