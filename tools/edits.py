@@ -468,14 +468,18 @@ def leave_contracts(room, crate, functions):
         lines[it.body - 1] += f" {NO_BODY}"
         lines[it.body : it.last - 1] = [""] * (it.last - 1 - it.body)
         # A function that only calls itself is a cycle of its name.
-        for gone in (proofs, f"{os.path.dirname(proofs)}/+{it.name}", f"{os.path.dirname(proofs)}/+{cycle}"):
-            shutil.rmtree(gone, ignore_errors=True)
+        for folder in (proofs, f"{os.path.dirname(proofs)}/+{it.name}"):
+            shutil.rmtree(folder, ignore_errors=True)
         os.makedirs(proofs)
         with open(f"{proofs}/Proof.antt", "w", encoding="utf-8") as file:
             file.write(NO_PROOF.format(crate=crate, path=called(it).replace("::", "."), name=it.name))
     for path, lines in texts.items():
         with open(f"{room}/{path}", "w", encoding="utf-8") as file:
             file.write("\n".join(lines))
+    gone = {f"+{cycle}" for _, cycle in found if cycle not in cycles}
+    for at, folders, _ in os.walk(f"{room}/proofs"):
+        for folder in gone.intersection(folders):
+            shutil.rmtree(f"{at}/{folder}")
 
 
 def cycle_of(text, function):
