@@ -3,6 +3,10 @@
 A contract stands between any two functions, so a wrong body makes no goal of another function fail. Edits of a crate that change
 different functions are therefore applied together, to one copy of the crate, and the prover checks only these functions and what
 they call (`rattle check --only`), over the libraries that `rt` has built. What it then says of each function decides that edit.
+
+Of what they call a goal needs no more than the contract, so at first the copy has no bodies of other functions, and a hole in place
+of each proof of them, which costs next to nothing. Only a refusal counts there: an edit that isn't refused is tried again in a copy
+with all bodies.
 """
 
 import collections
@@ -38,14 +42,24 @@ GONE = re.compile(r"has no field|is not in scope|has no `|was not admitted")
 UNREAD = re.compile(r"is not in scope|has no field|is no name|operand is missing|expected the end|cannot continue")
 SAID = re.compile(r"fn [^:\s]+::(\S+): (.*)")
 STALE = re.compile(r"module .Rattle-(\w+)-.*Run the lower steps again")
-ENDED = re.compile(r"only=\d+ proved=\d+|logic=(?:not-)?proved\b")
+ENDED = re.compile(r"only=\d+ (?:proved|holes)=\d+|logic=(?:not-)?proved\b")
+CYCLE = re.compile(r"\s*#\[cycle\((\w+)\)\]")
+# The body of a function of which a check needs the contract alone, and the file of its proof.
+NO_BODY = "unreachable!()"
+NO_PROOF = """use Rattle.{crate}.proofs.{path}.Statement.{{statement}}
+
+pub {name}_spec : {{M : Type 1}} → statement M
+{name}_spec 𝓤 𝓛 𝓜 𝓡 wired = ?
+"""
 
 Edit = collections.namedtuple("Edit", "crate name path")
-Function = collections.namedtuple("Function", "path module owner name first last")
+# A function's lines are counted from 1: the first of its attributes and comments, that on which its body begins, and the last.
+Function = collections.namedtuple("Function", "path module owner name first body last")
 Replacement = collections.namedtuple("Replacement", "path old new")
 # What an edit replaces, and the functions that are checked for it: all of the crate where there are none.
 Change = collections.namedtuple("Change", "edit replacements functions is_apart")
-Batch = collections.namedtuple("Batch", "crate changes times_killed", defaults=(0,))
+# A batch is tried with the bodies of all functions where some of its changes weren't refused without.
+Batch = collections.namedtuple("Batch", "crate changes is_whole times_killed", defaults=(False, 0))
 Checked = collections.namedtuple("Checked", "status lines texts")
 Tried = collections.namedtuple("Tried", "crate name verdict text")
 
@@ -241,16 +255,19 @@ def owner_of(line):
     return flat(of_type) + flat(of_trait)
 
 
-def end_of(lines, first, indent):
-    """The last line of the function whose head stands at a line, or nothing where it has no body."""
-    is_in_body, depth = False, 0
+def body_of(lines, first, indent):
+    """The lines on which the body begins and ends of the function whose head stands at a line, or nothing where it has no body."""
+    body, depth = None, 0
     for at in range(first, len(lines)):
         line = lines[at]
         depth += line.count("{") - line.count("}")
-        if at == first and line.endswith("}") and not depth or is_in_body and line == f"{indent}}}":
-            return at
-        is_in_body = is_in_body or line == f"{indent}{{" or line.endswith("{") and (at == first or line.startswith(f"{indent})"))
-        if not is_in_body and not depth and line.endswith(";"):
+        if at == first and line.endswith("}") and not depth:
+            return at, at
+        if body is not None and line == f"{indent}}}":
+            return body, at
+        if body is None and (line == f"{indent}{{" or line.endswith("{") and (at == first or line.startswith(f"{indent})"))):
+            body = at
+        if body is None and not depth and line.endswith(";"):
             return None
     return None
 
@@ -269,13 +286,13 @@ def functions_in(path, text, homes):
         elif line.startswith("}"):
             owner = ""
         head = HEAD.match(line)
-        last = end_of(lines, at, head[1]) if head else None
-        if last is not None:
+        body = body_of(lines, at, head[1]) if head else None
+        if body:
             first = at
             while first and re.match(r"\s*(///|//|#\[)", lines[first - 1]):
                 first -= 1
             of = owner if head[1] else ""
-            found.append(Function(path, homes.get(of, module), of, head[2], first + 1, last + 1))
+            found.append(Function(path, homes.get(of, module), of, head[2], first + 1, body[0] + 1, body[1] + 1))
     return found
 
 
@@ -356,7 +373,7 @@ def batches_of(workspace, edits):
             tried.append(Tried(edit.crate, edit.name, "not tried", str(error)))
             continue
         add_to(batches, change, workspace)
-    return [Batch(changes[0].edit.crate, changes) for changes in batches], tried
+    return [Batch(changes[0].edit.crate, changes, is_whole=not changes[0].functions) for changes in batches], tried
 
 
 def add_to(batches, change, workspace):
@@ -436,6 +453,46 @@ def without_misfit(functions, lines, crate):
     return None
 
 
+def leave_contracts(room, crate, functions):
+    """Takes the bodies of all other functions out of a copy of a crate, line for line, and puts a hole in place of each of their proofs."""
+    sources = Sources(room)
+    found = [(it, cycle_of(sources.texts[it.path], it)) for it in sources.functions()]
+    # A cycle has one proof, so the bodies of its members stay together.
+    cycles = {cycle for it, cycle in found if cycle and called(it) in functions}
+    texts = {path: text.split("\n") for path, text in sources.texts.items()}
+    for it, cycle in found:
+        lines, proofs = texts[it.path], f"{room}/proofs/{called(it).replace('::', '/')}"
+        if called(it) in functions or cycle in cycles or not can_lose_body(lines, it):
+            continue
+        lines[it.first - 1 : it.body] = ["" if CYCLE.match(line) else line for line in lines[it.first - 1 : it.body]]
+        lines[it.body - 1] += f" {NO_BODY}"
+        lines[it.body : it.last - 1] = [""] * (it.last - 1 - it.body)
+        # A function that only calls itself is a cycle of its name.
+        for folder in (proofs, f"{os.path.dirname(proofs)}/+{it.name}"):
+            shutil.rmtree(folder, ignore_errors=True)
+        os.makedirs(proofs)
+        with open(f"{proofs}/Proof.antt", "w", encoding="utf-8") as file:
+            file.write(NO_PROOF.format(crate=crate, path=called(it).replace("::", "."), name=it.name))
+    for path, lines in texts.items():
+        with open(f"{room}/{path}", "w", encoding="utf-8") as file:
+            file.write("\n".join(lines))
+    gone = {f"+{cycle}" for _, cycle in found if cycle not in cycles}
+    for at, folders, _ in os.walk(f"{room}/proofs"):
+        for folder in gone.intersection(folders):
+            shutil.rmtree(f"{at}/{folder}")
+
+
+def cycle_of(text, function):
+    """The name that a function gives the cycle that it is in, or nothing."""
+    return next((it[1] for it in map(CYCLE.match, text.split("\n")[function.first - 1 : function.body]) if it), None)
+
+
+def can_lose_body(lines, function):
+    """Whether a function has a body of lines of its own, which no constant is computed by, and which isn't in one that was taken out."""
+    head = "".join(lines[function.first - 1 : function.body])
+    return function.body < function.last and bool(lines[function.last - 1]) and "const fn" not in head
+
+
 def check_batch(workspace, batch, check, kept):
     """What the prover says of a copy of the crate with the batch's edits, over what `kept` has of earlier checks, and the texts that they change."""
     folder = workspace.folder(batch.crate)
@@ -448,10 +505,13 @@ def check_batch(workspace, batch, check, kept):
         for path, text in texts.items():
             with open(f"{room}/{path}", "w", encoding="utf-8") as file:
                 file.write(text)
+        if not batch.is_whole:
+            leave_contracts(room, batch.crate, functions)
         while True:
             only = [word for name in functions for word in ("--only", name)]
             over = ["--incremental", kept] if kept else []
-            status, lines = check.run([*workspace.words(batch.crate), *over, *only], room)
+            holes = [] if batch.is_whole else ["--allow-holes"]
+            status, lines = check.run([*workspace.words(batch.crate), *over, *holes, *only], room)
             others = without_misfit(functions, lines, batch.crate) if status == 2 else None
             if others is None:
                 return Checked(status, lines, texts)
@@ -571,22 +631,36 @@ def judge(workspace, batch, checked):
     answer = Answer(batch, checked, workspace.folder(batch.crate))
     if answer.stale():
         raise Unusable(f"the library of {answer.stale()} is of other sources: prove it again")
-    tried = []
     spoilt = answer.spoilt()
+    if not batch.is_whole:
+        return judge_without_bodies(batch, answer, spoilt)
+    tried = []
     if spoilt:
         culprits = answer.culprits(spoilt)
         tried += [Tried(batch.crate, change.edit.name, "not tried", short(line)) for change, line in culprits]
         left = [it for it in batch.changes if it not in [change for change, _ in culprits]]
         together = [left] if culprits else [[it] for it in left]
-        return tried, [Batch(batch.crate, changes) for changes in together if changes]
+        return tried, [Batch(batch.crate, changes, is_whole=True) for changes in together if changes]
     left = []
     for change in batch.changes:
         verdict = answer.verdict(change)
         if verdict:
             tried.append(Tried(batch.crate, change.edit.name, *verdict))
         else:
-            left.append(Batch(batch.crate, [change]))
+            left.append(Batch(batch.crate, [change], is_whole=True))
     return tried, left
+
+
+def judge_without_bodies(batch, answer, spoilt):
+    """The refusals that a check gives in which other functions have no bodies, and a batch of what is left, to be tried with all bodies."""
+    tried, left = [], []
+    for change in batch.changes:
+        failed, _ = ([], []) if spoilt else answer.goals(change)
+        if failed:
+            tried.append(Tried(batch.crate, change.edit.name, "refused", short(failed[0])))
+        else:
+            left.append(change)
+    return tried, [Batch(batch.crate, left, is_whole=True)] if left else []
 
 
 class Trials:
