@@ -400,6 +400,17 @@ def check_large_whole(checks):
             checks.ends(words, (1, None, f"<stdin>:{at}: error: f-string\n"), source + b"f'{}'\n")
 
 
+def check_characters(checks):
+    """Each character below U+0180 by itself, alone and beside doubled braces, in texts and in f-strings."""
+    characters = [chr(one) for one in range(1, 0x180) if chr(one) not in "\n\r'\\{}"]
+    texts = [text for one in characters for text in (one, f"{one}{{{one}}}{one}")]
+    due = ", ".join(f"Expr(Constant({text!r}))" for text in texts)
+    checks.ends(["dump", "--bare"], (0, f"Module([{due}], [])\n", ""), "".join(f"'{text}'\n" for text in texts).encode())
+    due = ", ".join(f"Expr(JoinedStr([Constant({text!r})]))" for text in texts)
+    doubled = "".join(f"f'{text}'\n" for text in texts).replace("{", "{{").replace("}", "}}")
+    checks.ends(["dump", "--bare", "--whole"], (0, f"Module([{due}], [])\n", ""), doubled.encode())
+
+
 # --- the stack ----------------------------------------------------------------------------------------------------------
 
 
@@ -460,7 +471,7 @@ def main():
     if not os.access(checks.program, os.X_OK):
         print(f"program.py: {checks.program} isn't there", file=sys.stderr)
         return 2
-    parts = (check_words, check_files, check_streams, check_open_pipes, check_terminal, check_given_back, check_large, check_large_places, check_large_whole, check_stack)
+    parts = (check_words, check_files, check_streams, check_open_pipes, check_terminal, check_given_back, check_large, check_large_places, check_large_whole, check_characters, check_stack)
     for part in parts:
         part(checks)
     return checks.end()
