@@ -1,5 +1,5 @@
 #!/usr/bin/env python3
-"""Checks that each block of Rattle in docs/LIBRARY.md and README.md is word for word in a file of crates/uses.
+"""Checks that each block of Rattle in docs/LIBRARY.md and README.md is word for word in a file of crates/examples.
 
     conformance/quotes.py
 
@@ -25,13 +25,13 @@ def read(*parts):
 
 def main():
     page = read("docs", "LIBRARY.md") + read("README.md")
-    files = [read(path) for path in sorted(glob.glob(os.path.join(TOP, "crates", "uses", "src", "**", "*.rt"), recursive=True))]
+    files = [read(path) for path in sorted(glob.glob(os.path.join(TOP, "crates", "examples", "src", "**", "*.rt"), recursive=True))]
     blocks = [found[1] for found in BLOCK.finditer(page)]
     faults = []
     for block in blocks:
         # A block is whole lines of a file.
         if not any(("\n" + text).find("\n" + block) >= 0 for text in files):
-            faults.append("is in no file of crates/uses: " + block.split("\n", 1)[0])
+            faults.append("is in no file of crates/examples: " + block.split("\n", 1)[0])
     quoted = set(FUNCTION.findall("\n".join(blocks)))
     faults.extend(f"is quoted nowhere: {name}" for text in files for name in FUNCTION.findall(text) if name not in quoted)
     for fault in faults:

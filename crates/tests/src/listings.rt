@@ -1,9 +1,9 @@
 //! The three listers, from the start and from a cursor: the calls of `pylex` on a source.
 
 use crate::rows::{bytes_of, number, parts, push, source_of};
-use fakes::FakeReader;
 use pylex::{Cursor, Entry, Kind, Lister, Step, StreamLister, line_text, push_line};
 use pysource::{ByteIn, Place};
+use pysource_fakes::FakeReader;
 use std::alloc::Global;
 use std::process::Abort;
 

@@ -1,9 +1,7 @@
 //! What rows show.
 
 use crate::rows::{fields, push, rows};
-use crate::{
-    examples, expressions, fstrings, lexemes, listings, modules, numbers, shapes, sources, tokens,
-};
+use crate::{expressions, fstrings, lexemes, listings, modules, numbers, shapes, sources, tokens};
 use std::alloc::Global;
 use std::process::Abort;
 
@@ -84,12 +82,12 @@ fn of_tree(rt: &impl Abort, alloc: Global, subject: &str, words: &str, text: &st
         "spans" => modules::spans(rt, alloc, text),
         "sizes" => shapes::sizes(rt, alloc),
         "fits" => shapes::fits(rt, alloc, words, text),
-        "counted" => examples::counted(rt, alloc, text),
-        "gone-on" => examples::gone_on(rt, alloc, text),
-        "rewritten" => examples::rewrote(rt, alloc, text),
-        "around" => examples::around(rt, alloc, text),
-        "assigned" => examples::assigned(rt, alloc, text),
-        "told" => examples::told(rt, alloc, text),
+        "counted" => quoted::counted(rt, alloc, text),
+        "gone-on" => quoted::gone_on(rt, alloc, text),
+        "rewritten" => quoted::rewrote(rt, alloc, text),
+        "around" => quoted::around(rt, alloc, text),
+        "assigned" => quoted::assigned(rt, alloc, text),
+        "told" => quoted::told(rt, alloc, text),
         _ => panic!(rt; "no subject: {subject:?}"),
     }
 }
@@ -129,7 +127,7 @@ fn shows_all(rt: HostRuntime) {
         expressions::ROWS,
         modules::ROWS,
         shapes::ROWS,
-        examples::ROWS,
+        quoted::ROWS,
     ] {
         for row in rows(&rt, table) {
             check(&rt, rt.alloc(), row, &mut wrong);

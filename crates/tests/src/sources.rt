@@ -1,11 +1,11 @@
 //! Bytes and lines, and what is shown of texts: the calls of `pysource`.
 
 use crate::rows::{bytes_of, number, parts, push};
-use fakes::{FakeReader, FakeWriter};
 use pysource::{
     ByteIn, ByteOut, Chunks, LineReader, decode_vec, encoding_of, is_plain_text, place_of,
     push_repr, push_repr_bytes, push_repr_points, read_all, repr_bytes, repr_text, write_all,
 };
+use pysource_fakes::{FakeReader, FakeWriter};
 use pytree::Points;
 use std::alloc::Global;
 use std::process::Abort;
