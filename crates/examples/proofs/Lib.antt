@@ -1,3 +1,4 @@
 mod ListingLemmas
 mod StreamLemmas
 mod TreeLemmas
+mod WalkLemmas

@@ -4,3 +4,4 @@ pub mod Streams
 pub mod Trees
 pub mod Faults
 pub mod Places
+pub mod Functions

@@ -5,7 +5,7 @@
 //! [`resumed`] it is resumed. [`dumped`] and [`rewritten`] write what a source's tree is, and
 //! [`assignment_text`] one that is made by hand. [`tree_of_bytes`] takes the fault of each layer,
 //! and [`described`] reports it. [`spans_around`] finds the nodes that stand around a byte, and
-//! [`first_text`] the text of the innermost.
+//! [`first_text`] the text of the innermost. [`functions`] walks over a tree.
 #![tactic(auto)]
 
 mod assignments;
@@ -15,6 +15,7 @@ mod listings;
 mod places;
 mod streams;
 mod trees;
+mod walks;
 
 pub use assignments::{assignment, assignment_text};
 pub use cursors::{kept, resumed};
@@ -23,3 +24,4 @@ pub use listings::count_names;
 pub use places::{first_text, spans_around};
 pub use streams::first_comment;
 pub use trees::{INDENTED, dumped, rewritten};
+pub use walks::functions;

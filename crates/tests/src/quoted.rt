@@ -1,10 +1,11 @@
 //! What `docs/LIBRARY.md` quotes of the crate `examples`, each once where all goes well, and where
 //! a source is at fault.
 
+use crate::modules::module;
 use crate::rows::{push, push_shown, source_of};
 use examples::{
-    INDENTED, assignment_text, count_names, described, dumped, first_comment, first_text, kept,
-    resumed, rewritten, spans_around, tree_of_bytes,
+    INDENTED, assignment_text, count_names, described, dumped, first_comment, first_text,
+    functions, kept, resumed, rewritten, spans_around, tree_of_bytes,
 };
 use pyparse::parse_placed;
 use pysource::Counted;
@@ -22,6 +23,13 @@ pub(crate) const ROWS: &str = "
 ? rewritten => x = (1)  # one\n \
   => x = 1\nModule(\n  body=[\n    Assign(\n      targets=[\n        Name(id='x', ctx=Store())],\n      value=Constant(value=1))],\n  type_ignores=[])
 ? around => x = ya + z\n => 3 Some(\"ya\")
+? functions => def a(x):\n  class b:\n    async def c(): pass\nfor d in e:\n  def f(): pass\nelse:\n  def g(): pass\n \
+  => \"a\" \"c\" \"f\" \"g\"
+? functions => with a:\n  while b:\n    def c(): pass\n  else:\n    def d(): pass\ntry:\n  def e(): pass\nexcept f:\n  def g(): pass\nelse:\n  def h(): pass\nfinally:\n  def i(): pass\n \
+  => \"c\" \"d\" \"e\" \"g\" \"h\" \"i\"
+? functions => match a:\n case b:\n  def c(): pass\n case d:\n  if e: lambda: f\n  else:\n   async def g(): pass\n \
+  => \"c\" \"g\"
+? functions => x = lambda: 0\n =>\x20
 ? assigned => x => Some(\"x = 7\\n\")
 ? assigned => if => None
 ? told => x\ny = = 1\n => 2:0: invalid syntax";
@@ -59,6 +67,15 @@ pub(crate) fn around(rt: &impl Abort, alloc: Global, out: &mut String, text: &st
     let spans = spans_around(alloc, placed.places(), 5).expect(rt, "memory");
     push_shown(rt, out, &spans.as_slice().len());
     push_shown(rt, out, &first_text(&source, spans.as_slice()));
+}
+
+/// The names of the functions that a source defines.
+pub(crate) fn defined(rt: &impl Abort, alloc: Global, out: &mut String, text: &str) {
+    let tree = module(rt, alloc, text);
+    let found = functions(alloc, &tree).expect(rt, "memory");
+    for function in found.iter() {
+        push_shown(rt, out, &function.name);
+    }
 }
 
 /// The assignment of 7 to a name.

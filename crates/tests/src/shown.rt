@@ -97,6 +97,7 @@ fn of_tree(
         "gone-on" => quoted::gone_on(rt, alloc, out, words, text),
         "rewritten" => quoted::rewrote(rt, alloc, out, text),
         "around" => quoted::around(rt, alloc, out, text),
+        "functions" => quoted::defined(rt, alloc, out, text),
         "assigned" => quoted::assigned(rt, alloc, out, text),
         "told" => quoted::told(rt, alloc, out, text),
         _ => panic!(rt; "no subject: {subject:?}"),
