@@ -451,7 +451,7 @@ def check_pages(checks):
             elif kind == "":
                 if not any(start and block.startswith(start) for start in NO_COMMANDS):
                     checks.fail(page, f"nothing checks the block that begins with `{block.splitlines()[0]}`")
-            elif kind not in ("python", "js", "rust"):
+            elif kind not in ("python", "js", "rust", "antt"):
                 checks.fail(page, f"nothing checks a block of `{kind}`")
 
 

@@ -1,10 +1,10 @@
 //! Expressions and patterns at the levels of the grammar: what they are read as, the tokens that
 //! they are written in, and whether they are well formed.
 
-use crate::rows::{push, source_of};
+use crate::rows::{push, push_shown, source_of};
 use crate::words::{level_of, pattern_level_of, style_of};
 use pygrammar::{Level, PatternLevel};
-use pyparse::{Token, parse_expression, parse_pattern, tokens_of};
+use pyparse::{ParseFault, Token, parse_expression, parse_pattern, tokens_of};
 use pysource::Source;
 use pytree::{Expr, Extent, Pattern, dump_expr, well_formed_at, well_formed_pattern_at};
 use pyunparse::{Piece, expression_tokens, pattern_tokens};
@@ -80,31 +80,51 @@ pub(crate) const ROWS: &str = "
   => JoinedStr(\n  values=[\n    FormattedValue(\n      value=Name(id='x', ctx=Load()),\n      conversion=114,\n      format_spec=JoinedStr(\n        values=[\n          FormattedValue(\n            value=Name(id='x', ctx=Load()),\n            conversion=-1,\n            format_spec=JoinedStr(\n              values=[\n                Constant(value='5')]))]))])";
 
 /// The tokens of a line, without its NEWLINE and ENDMARKER.
-pub(crate) fn tokens_of_line<'a>(
-    rt: &impl Abort,
-    alloc: Global,
-    source: &'a Source,
-) -> Vec<Token<'a>> {
+fn tokens_of_line<'a>(rt: &impl Abort, alloc: Global, source: &'a Source) -> Vec<Token<'a>> {
     let mut tokens = tokens_of(alloc, source, Extent::Whole).expect(rt, "tokens");
     let _ = tokens.pop();
     let _ = tokens.pop();
     tokens
 }
 
-/// The dump of the expression of a level that a line is, in a style, or what the grammar says
-/// against it.
-pub(crate) fn read(rt: &impl Abort, alloc: Global, level: &str, text: &str, style: &str) -> String {
+/// The expression of a level that a line is, or what the grammar says against it.
+pub(crate) fn expression(
+    rt: &impl Abort,
+    alloc: Global,
+    level: Level,
+    text: &str,
+) -> Result<Expr, ParseFault> {
     let source = source_of(rt, alloc, text);
     let tokens = tokens_of_line(rt, alloc, &source);
-    match parse_expression(alloc, tokens.as_slice(), level_of(rt, level)) {
+    parse_expression(alloc, tokens.as_slice(), level)
+}
+
+/// The dump of the expression of a level that a line is, in a style, or what the grammar says
+/// against it.
+pub(crate) fn read(
+    rt: &impl Abort,
+    alloc: Global,
+    out: &mut String,
+    level: &str,
+    text: &str,
+    style: &str,
+) {
+    match expression(rt, alloc, level_of(rt, alloc, level), text) {
         Ok(tree) => {
-            let text = dump_expr(alloc, &tree, style_of(style));
+            let text = dump_expr(alloc, &tree, style_of(style)).expect(rt, "memory");
             drop(tree);
-            text
+            push(rt, out, text.as_str());
         }
-        Err(fault) => format!(in alloc; "{fault:?}"),
+        Err(fault) => push_shown(rt, out, &fault),
     }
-    .expect(rt, "memory")
+}
+
+/// In which extents of the language an expression is well formed at a level.
+pub(crate) fn extents(rt: &impl Abort, alloc: Global, out: &mut String, tree: &Expr, level: Level) {
+    let plain = well_formed_at(alloc, tree, level, Extent::Plain).expect(rt, "memory");
+    let whole = well_formed_at(alloc, tree, level, Extent::Whole).expect(rt, "memory");
+    push_shown(rt, out, &plain);
+    push_shown(rt, out, &whole);
 }
 
 /// Appends tokens, with a blank before each.
@@ -115,47 +135,40 @@ fn push_pieces(rt: &impl Abort, out: &mut String, pieces: &[Piece]) {
     }
 }
 
-/// In which extents of the language an expression is well formed at a level, and the tokens that it
-/// is written in there.
-pub(crate) fn shown(rt: &impl Abort, alloc: Global, tree: &Expr, level: Level) -> String {
-    let plain = well_formed_at(alloc, tree, level, Extent::Plain).expect(rt, "memory");
-    let whole = well_formed_at(alloc, tree, level, Extent::Whole).expect(rt, "memory");
-    let pieces = expression_tokens(alloc, tree, level).expect(rt, "memory");
-    let mut out = format!(in alloc; "{plain} {whole}").expect(rt, "memory");
-    push_pieces(rt, &mut out, pieces.as_slice());
-    out
-}
-
-/// The same of the expression that a line is.
-pub(crate) fn write(rt: &impl Abort, alloc: Global, level: &str, text: &str) -> String {
-    let source = source_of(rt, alloc, text);
-    let tokens = tokens_of_line(rt, alloc, &source);
-    let tree = parse_expression(alloc, tokens.as_slice(), Level::Value).expect(rt, "a tree");
-    let told = shown(rt, alloc, &tree, level_of(rt, level));
+/// In which extents of the language the expression that a line is is well formed at a level, and
+/// the tokens that it is written in there.
+pub(crate) fn write(rt: &impl Abort, alloc: Global, out: &mut String, level: &str, text: &str) {
+    let tree = expression(rt, alloc, Level::Value, text).expect(rt, "a tree");
+    let level = level_of(rt, alloc, level);
+    extents(rt, alloc, out, &tree, level);
+    let pieces = expression_tokens(alloc, &tree, level).expect(rt, "memory");
     drop(tree);
-    told
+    push_pieces(rt, out, pieces.as_slice());
 }
 
-/// Whether a pattern is well formed at a level, and the tokens that it is written in there.
-fn shown_pattern(rt: &impl Abort, alloc: Global, tree: &Pattern, level: PatternLevel) -> String {
-    let fits = well_formed_pattern_at(alloc, tree, level).expect(rt, "memory");
-    let pieces = pattern_tokens(alloc, tree, level).expect(rt, "memory");
-    let mut out = format!(in alloc; "{fits}").expect(rt, "memory");
-    push_pieces(rt, &mut out, pieces.as_slice());
-    out
+/// Whether a pattern is well formed at a level, and the tokens that it is written in there. It is
+/// dropped.
+fn push_pattern(
+    rt: &impl Abort,
+    alloc: Global,
+    out: &mut String,
+    tree: Pattern,
+    level: PatternLevel,
+) {
+    let fits = well_formed_pattern_at(alloc, &tree, level).expect(rt, "memory");
+    let pieces = pattern_tokens(alloc, &tree, level).expect(rt, "memory");
+    drop(tree);
+    push_shown(rt, out, &fits);
+    push_pieces(rt, out, pieces.as_slice());
 }
 
 /// The same of the pattern of a level that a line is, or what the grammar says against it.
-pub(crate) fn pattern(rt: &impl Abort, alloc: Global, level: &str, text: &str) -> String {
+pub(crate) fn pattern(rt: &impl Abort, alloc: Global, out: &mut String, level: &str, text: &str) {
     let source = source_of(rt, alloc, text);
     let tokens = tokens_of_line(rt, alloc, &source);
-    let level = pattern_level_of(rt, level);
+    let level = pattern_level_of(rt, alloc, level);
     match parse_pattern(alloc, tokens.as_slice(), level) {
-        Ok(tree) => {
-            let told = shown_pattern(rt, alloc, &tree, level);
-            drop(tree);
-            told
-        }
-        Err(fault) => format!(in alloc; "{fault:?}").expect(rt, "memory"),
+        Ok(tree) => push_pattern(rt, alloc, out, tree, level),
+        Err(fault) => push_shown(rt, out, &fault),
     }
 }

@@ -2,8 +2,8 @@
 //! `pyfstring_tokens`. Expected cuts were taken from a plain Python model that agrees with Python
 //! 3.11, and those of the built program stand in `conformance/tables/fstring_cuts.txt`.
 
-use crate::rows::push;
-use pyfstring::{Manner, Piece, SpecPiece, pieces, single};
+use crate::rows::{push, push_shown, push_told};
+use pyfstring::{Manner, pieces, single};
 use pyfstring_tokens::FieldTokens;
 use std::alloc::Global;
 use std::process::Abort;
@@ -143,67 +143,65 @@ pub(crate) const ROWS: &str = "
 ? braces plain => \\N{{}}} => \\N{{}}
 ? braces raw => \\N{{ => \\N{
 ? braces plain => é\\é𝒳}} => é\\é𝒳}
-? field => x => Name x|Ok(None)
-? field =>  été +b  => Name été|Operator(Plus) +|Name b|Ok(None)
+? field => x => Ok(Some((Name, \"x\"))) Ok(None)
+? field =>  été +b  \
+  => Ok(Some((Name, \"été\"))) Ok(Some((Operator(Plus), \"+\"))) Ok(Some((Name, \"b\"))) Ok(None)
 ? field =>  => Ok(None)
-? field => x:=1.5j => Name x|Operator(ColonEqual) :=|Number 1.5j|Ok(None)
-? field => not x!=0xfe => Name not|Name x|Operator(NotEqual) !=|Number 0xfe|Ok(None)
+? field => x:=1.5j \
+  => Ok(Some((Name, \"x\"))) Ok(Some((Operator(ColonEqual), \":=\"))) Ok(Some((Number, \"1.5j\"))) Ok(None)
+? field => not x!=0xfe \
+  => Ok(Some((Name, \"not\"))) Ok(Some((Name, \"x\"))) Ok(Some((Operator(NotEqual), \"!=\"))) Ok(Some((Number, \"0xfe\"))) Ok(None)
 ? field => f(*y)[0] \
-  => Name f|Operator(LPar) (|Operator(Star) *|Name y|Operator(RPar) )|Operator(LSqb) [|Number 0|Operator(RSqb) ]|Ok(None)
+  => Ok(Some((Name, \"f\"))) Ok(Some((Operator(LPar), \"(\"))) Ok(Some((Operator(Star), \"*\"))) Ok(Some((Name, \"y\"))) Ok(Some((Operator(RPar), \")\"))) Ok(Some((Operator(LSqb), \"[\"))) Ok(Some((Number, \"0\"))) Ok(Some((Operator(RSqb), \"]\"))) Ok(None)
 ? field => {1: (a]} \
-  => Operator(LBrace) {|Number 1|Operator(Colon) :|Operator(LPar) (|Name a|Operator(RSqb) ]|Operator(RBrace) }|Ok(None)
-? field => x\n  + 1 => Name x|Operator(Plus) +|Number 1|Ok(None)
-? field => x\r\n+ 1\n => Name x|Operator(Plus) +|Number 1|Ok(None)
+  => Ok(Some((Operator(LBrace), \"{\"))) Ok(Some((Number, \"1\"))) Ok(Some((Operator(Colon), \":\"))) Ok(Some((Operator(LPar), \"(\"))) Ok(Some((Name, \"a\"))) Ok(Some((Operator(RSqb), \"]\"))) Ok(Some((Operator(RBrace), \"}\"))) Ok(None)
+? field => x\n  + 1 \
+  => Ok(Some((Name, \"x\"))) Ok(Some((Operator(Plus), \"+\"))) Ok(Some((Number, \"1\"))) Ok(None)
+? field => x\r\n+ 1\n \
+  => Ok(Some((Name, \"x\"))) Ok(Some((Operator(Plus), \"+\"))) Ok(Some((Number, \"1\"))) Ok(None)
 ? field =>   \n => Ok(None)
-? field => x \\\n  y => Name x|Name y|Ok(None)
-? field => 'a)' \"(\" => String 'a)'|String \"(\"|Ok(None)
-? field => '''a\n)''' => String '''a\n)'''|Ok(None)
-? field => a $ b => Name a|Err(NoToken)
-? field => x! => Name x|Err(NoToken)
+? field => x \\\n  y => Ok(Some((Name, \"x\"))) Ok(Some((Name, \"y\"))) Ok(None)
+? field => 'a)' \"(\" => Ok(Some((String, \"'a)'\"))) Ok(Some((String, \"\\\"(\\\"\"))) Ok(None)
+? field => '''a\n)''' => Ok(Some((String, \"'''a\\n)'''\"))) Ok(None)
+? field => a $ b => Ok(Some((Name, \"a\"))) Err(NoToken)
+? field => x! => Ok(Some((Name, \"x\"))) Err(NoToken)
 ? field => 'abc => Err(NoToken)
 ? field => '''a => Err(NoToken)
-? field => (a => Operator(LPar) (|Name a|Err(Unclosed)
-? field => {(} => Operator(LBrace) {|Operator(LPar) (|Operator(RBrace) }|Err(Unclosed)
-? field => a)(b => Name a|Err(Closer)
+? field => (a => Ok(Some((Operator(LPar), \"(\"))) Ok(Some((Name, \"a\"))) Err(Unclosed)
+? field => {(} \
+  => Ok(Some((Operator(LBrace), \"{\"))) Ok(Some((Operator(LPar), \"(\"))) Ok(Some((Operator(RBrace), \"}\"))) Err(Unclosed)
+? field => a)(b => Ok(Some((Name, \"a\"))) Err(Closer)
 ? field => ] => Err(Closer)
 ? field => # c => Err(Comment)
-? field => a # b\n + c => Name a|Err(Comment)";
-
-/// How pieces are shown.
-fn shown(rt: &impl Abort, alloc: Global, pieces: &[Piece<Vec<SpecPiece>>]) -> String {
-    format!(in alloc; "{pieces:?}").expect(rt, "memory")
-}
+? field => a # b\n + c => Ok(Some((Name, \"a\"))) Err(Comment)";
 
 /// The cut of a body, or why it has none, in the manner of a literal: `plain`, `raw`, `nested` for
 /// one in a field, or `raw nested`.
-pub(crate) fn cut(rt: &impl Abort, alloc: Global, words: &str, body: &str) -> String {
+pub(crate) fn cut(rt: &impl Abort, alloc: Global, out: &mut String, words: &str, body: &str) {
     let manner = Manner {
         is_raw: words.starts_with("raw"),
         is_nested: words.ends_with("nested"),
     };
     match pieces(alloc, body, manner) {
-        Ok(pieces) => shown(rt, alloc, pieces.as_slice()),
-        Err(error) => format!(in alloc; "{error:?}: {error}").expect(rt, "memory"),
+        Ok(pieces) => push_shown(rt, out, &pieces),
+        Err(error) => push_told(rt, out, &error),
     }
 }
 
 /// A text of a body with one brace for each two.
-pub(crate) fn braces(rt: &impl Abort, alloc: Global, words: &str, text: &str) -> String {
-    single(alloc, text, words == "raw").expect(rt, "memory")
+pub(crate) fn braces(rt: &impl Abort, alloc: Global, out: &mut String, words: &str, text: &str) {
+    let single = single(alloc, text, words == "raw").expect(rt, "memory");
+    push(rt, out, single.as_str());
 }
 
 /// The tokens of a field's text, and what stops them.
-pub(crate) fn field(rt: &impl Abort, alloc: Global, text: &str) -> String {
+pub(crate) fn field(rt: &impl Abort, out: &mut String, text: &str) {
     let mut tokens = FieldTokens::new(text);
-    let mut out = String::new(alloc);
     for _ in 0..20u64 {
-        match tokens.next() {
-            Ok(Some((class, text))) => {
-                let told = format!(in alloc; "{class:?} {text}|").expect(rt, "memory");
-                push(rt, &mut out, told.as_str());
-            }
-            end => return format!(in alloc; "{}{end:?}", out.as_str()).expect(rt, "memory"),
+        let told = tokens.next();
+        push_shown(rt, out, &told);
+        if !matches!(told, Ok(Some(_))) {
+            return;
         }
     }
-    out
 }

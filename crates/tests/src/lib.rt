@@ -10,8 +10,6 @@
 #![tactic(auto)]
 
 #[cfg(test)]
-mod examples;
-#[cfg(test)]
 mod expressions;
 #[cfg(test)]
 mod fstrings;
@@ -23,6 +21,8 @@ mod listings;
 mod modules;
 #[cfg(test)]
 mod numbers;
+#[cfg(test)]
+mod quoted;
 #[cfg(test)]
 mod rows;
 #[cfg(test)]

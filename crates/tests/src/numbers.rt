@@ -1,7 +1,6 @@
-//! Whole numbers of any size, and doubles: the calls of `pynumber`, and the numbers
-//! of trees.
+//! Whole numbers of any size, and doubles: the calls of `pynumber`, and the numbers of trees.
 
-use crate::rows::push;
+use crate::rows::{number, push, push_shown};
 use pynumber::{Double, Natural};
 use pytree::Integer;
 use std::alloc::Global;
@@ -9,39 +8,28 @@ use std::process::Abort;
 
 /// The rows.
 pub(crate) const ROWS: &str = "
-? natural 10 => 0_000 => 0 0 0 Some(0)
-? natural 10 => 00000000000000000000000000000000000000007 => 7 7 1 Some(7)
-? natural 2 => 1_0 => 2 2 1 Some(2)
-? natural 16 => DEAD_beef => 3735928559 3735928559 10 Some(3735928559)
+? natural 10 => 0_000 => 0 0 0 Some(0) [true, true] 0 0 Some(0) [true, true]
+? natural 10 => 00000000000000000000000000000000000000007 => 7 7 1 Some(7) [true, true] 7 7 Some(7) [true, true]
+? natural 10 => 1 => 1 1 1 Some(1) [true, true] 1 1 Some(1) [true, true]
+? natural 2 => 1_0 => 2 2 1 Some(2) [true, true] 2 2 Some(2) [true, true]
+? natural 16 => DEAD_beef => 3735928559 3735928559 10 Some(3735928559) [true, true] 3735928559 3735928559 Some(3735928559) [true, true]
 ? natural 16 => ffffffffffffffffffffffffffffffffffffffffffffffffffffffff \
-  => 26959946667150639794667015087019630673637144422540572481103610249215 26959946667150639794667015087019630673637144422540572481103610249215 68 None
+  => 26959946667150639794667015087019630673637144422540572481103610249215 26959946667150639794667015087019630673637144422540572481103610249215 68 None [true, false] 26959946667150639794667015087019630673637144422540572481103610249215 26959946667150639794667015087019630673637144422540572481103610249215 None [true, false]
 ? natural 10 => 1000000000000000000 \
-  => 1000000000000000000 1000000000000000000 19 Some(1000000000000000000)
+  => 1000000000000000000 1000000000000000000 19 Some(1000000000000000000) [true, true] 1000000000000000000 1000000000000000000 Some(1000000000000000000) [true, true]
 ? natural 10 => 18446744073709551615 \
-  => 18446744073709551615 18446744073709551615 20 Some(18446744073709551615)
+  => 18446744073709551615 18446744073709551615 20 Some(18446744073709551615) [true, true] 18446744073709551615 18446744073709551615 Some(18446744073709551615) [true, true]
 ? natural 10 => 18446744073709551616 \
-  => 18446744073709551616 18446744073709551616 20 Some(18446744073709551616)
+  => 18446744073709551616 18446744073709551616 20 Some(18446744073709551616) [true, true] 18446744073709551616 18446744073709551616 Some(18446744073709551616) [true, true]
 ? natural 10 => 1000000000000000000000000000000000000 \
-  => 1000000000000000000000000000000000000 1000000000000000000000000000000000000 37 Some(1000000000000000000000000000000000000)
+  => 1000000000000000000000000000000000000 1000000000000000000000000000000000000 37 Some(1000000000000000000000000000000000000) [true, true] 1000000000000000000000000000000000000 1000000000000000000000000000000000000 Some(1000000000000000000000000000000000000) [true, true]
 ? natural 10 => 340282366920938463463374607431768211455 \
-  => 340282366920938463463374607431768211455 340282366920938463463374607431768211455 39 Some(340282366920938463463374607431768211455)
+  => 340282366920938463463374607431768211455 340282366920938463463374607431768211455 39 Some(340282366920938463463374607431768211455) [true, true] 340282366920938463463374607431768211455 340282366920938463463374607431768211455 Some(340282366920938463463374607431768211455) [true, true]
 ? natural 10 => 340282366920938463463374607431768211456 \
-  => 340282366920938463463374607431768211456 340282366920938463463374607431768211456 39 None
+  => 340282366920938463463374607431768211456 340282366920938463463374607431768211456 39 None [true, false] 340282366920938463463374607431768211456 340282366920938463463374607431768211456 None [true, false]
 ? natural 10 => 10000000000000000000000000000000000000000 \
-  => 10000000000000000000000000000000000000000 10000000000000000000000000000000000000000 41 None
-? natural 10 => 1500 => 1500 1500 4 Some(1500)
-? integer => 0 => 0 0 Some(0)
-? integer => 1 => 1 1 Some(1)
-? integer => 18446744073709551615 \
-  => 18446744073709551615 18446744073709551615 Some(18446744073709551615)
-? integer => 18446744073709551616 \
-  => 18446744073709551616 18446744073709551616 Some(18446744073709551616)
-? integer => 340282366920938463463374607431768211455 \
-  => 340282366920938463463374607431768211455 340282366920938463463374607431768211455 Some(340282366920938463463374607431768211455)
-? integer => 340282366920938463463374607431768211456 \
-  => 340282366920938463463374607431768211456 340282366920938463463374607431768211456 None
-? integer => 10000000000000000000000000000000000000000 \
-  => 10000000000000000000000000000000000000000 10000000000000000000000000000000000000000 None
+  => 10000000000000000000000000000000000000000 10000000000000000000000000000000000000000 41 None [true, false] 10000000000000000000000000000000000000000 10000000000000000000000000000000000000000 None [true, false]
+? natural 10 => 1500 => 1500 1500 4 Some(1500) [true, true] 1500 1500 Some(1500) [true, true]
 ? double 1.50 => 1.5 => 1.5 1.5j 1.5 1.5j 1.5 true
 ? double 100100000000 => 1_0.0_1e1_0 \
   => 100100000000.0 100100000000j 100100000000.0 100100000000j 100100000000.0 true
@@ -58,58 +46,57 @@ pub(crate) const ROWS: &str = "
   => 1.0000000000000002 1.0000000000000002j 1.0000000000000002 1.0000000000000002j 1.0000000000000002 false";
 
 /// The number that digits of a base write: its decimal, how many digits that has, and the number as
-/// one of 128 bits.
-pub(crate) fn natural(rt: &impl Abort, alloc: Global, base: &str, digits: &str) -> String {
-    let radix = base.parse::<u64>().expect(rt, "a base");
+/// one of 128 bits; then the same number in a tree.
+pub(crate) fn natural(rt: &impl Abort, alloc: Global, out: &mut String, base: &str, digits: &str) {
+    let radix = u64::from(number(rt, base));
     assert!(rt; 0 < radix && radix <= 36);
     match Natural::read(alloc, radix, digits.as_bytes()).expect(rt, "memory") {
-        Some(number) => shown_natural(rt, alloc, &number),
-        None => String::from_str(alloc, "none").expect(rt, "memory"),
+        Some(number) => {
+            push_natural(rt, alloc, out, &number);
+            let number = Integer::of_natural(alloc, number).expect(rt, "memory");
+            push_integer(rt, alloc, out, &number);
+        }
+        None => push(rt, out, "none"),
     }
 }
 
-/// The same of a number, of which a copy is the same.
-fn shown_natural(rt: &impl Abort, alloc: Global, number: &Natural) -> String {
+/// The same of a number; whether a copy is the same, and whether the number of 128 bits is.
+fn push_natural(rt: &impl Abort, alloc: Global, out: &mut String, number: &Natural) {
+    number.push_decimal(out).expect(rt, "memory");
     let copy = number.clone().expect(rt, "memory");
+    push_shown(rt, out, &copy);
+    push_shown(rt, out, &number.len());
     let small = number.to_u128();
+    push_shown(rt, out, &small);
     let made = Natural::from_u128(alloc, small.unwrap_or(0)).expect(rt, "memory");
-    assert!(rt; copy == *number && (made == *number) == small.is_some());
-    let mut decimal = String::new(alloc);
-    number.push_decimal(&mut decimal).expect(rt, "memory");
-    format!(in alloc; "{} {copy:?} {} {small:?}", decimal.as_str(), number.len()).expect(
-        rt, "memory",
-    )
+    push_shown(rt, out, &[copy == *number, made == *number]);
 }
 
-/// The number of a tree that decimal digits write: its decimal, and the number as one of 128 bits.
-pub(crate) fn integer(rt: &impl Abort, alloc: Global, digits: &str) -> String {
-    let read = Natural::read(alloc, 10, digits.as_bytes()).expect(rt, "memory");
-    let number = Integer::of_natural(alloc, read.expect(rt, "a number")).expect(rt, "memory");
+/// The decimal of a number of a tree, the number as one of 128 bits, and whether a copy and that
+/// one are the same.
+fn push_integer(rt: &impl Abort, alloc: Global, out: &mut String, number: &Integer) {
+    push(rt, out, " ");
+    number.push_decimal(out).expect(rt, "memory");
     let copy = number.clone().expect(rt, "memory");
+    push_shown(rt, out, &copy);
     let small = number.to_u128();
+    push_shown(rt, out, &small);
     let made = Integer::new(alloc, small.unwrap_or(7)).expect(rt, "memory");
-    assert!(rt; copy == number && (made == number) == small.is_some());
-    let mut decimal = String::new(alloc);
-    number.push_decimal(&mut decimal).expect(rt, "memory");
-    format!(in alloc; "{} {copy:?} {small:?}", decimal.as_str()).expect(rt, "memory")
+    push_shown(rt, out, &[copy == *number, made == *number]);
 }
 
 /// The double of a literal: its repr, and that of the imaginary number with it; what `unparse`
 /// writes of both; how it is shown; and whether another literal has it too.
-pub(crate) fn double(rt: &impl Abort, alloc: Global, other: &str, text: &str) -> String {
+pub(crate) fn double(rt: &impl Abort, alloc: Global, out: &mut String, other: &str, text: &str) {
     let value = Double::read(alloc, text.as_bytes()).expect(rt, "memory");
     let other = Double::read(alloc, other.as_bytes()).expect(rt, "memory");
-    let mut out = String::new(alloc);
-    value.push_repr(&mut out, alloc).expect(rt, "memory");
-    push(rt, &mut out, " ");
-    value
-        .push_imaginary_repr(&mut out, alloc)
-        .expect(rt, "memory");
-    push(rt, &mut out, " ");
-    value.push_source(&mut out, alloc).expect(rt, "memory");
-    push(rt, &mut out, " ");
-    value
-        .push_imaginary_source(&mut out, alloc)
-        .expect(rt, "memory");
-    format!(in alloc; "{} {value:?} {}", out.as_str(), value == other).expect(rt, "memory")
+    value.push_repr(out, alloc).expect(rt, "memory");
+    push(rt, out, " ");
+    value.push_imaginary_repr(out, alloc).expect(rt, "memory");
+    push(rt, out, " ");
+    value.push_source(out, alloc).expect(rt, "memory");
+    push(rt, out, " ");
+    value.push_imaginary_source(out, alloc).expect(rt, "memory");
+    push_shown(rt, out, &value);
+    push_shown(rt, out, &(value == other));
 }

@@ -6,6 +6,7 @@
 
 use pysource::{Source, decode};
 use std::alloc::Global;
+use std::fmt::{Debug, Display, Write};
 use std::process::Abort;
 use std::str::Split;
 
@@ -33,13 +34,23 @@ pub(crate) fn fields<'a>(rt: &impl Abort, row: &'a str) -> (&'a str, &'a str, &'
 }
 
 /// The number that a word is.
-pub(crate) fn number(rt: &impl Abort, word: &str) -> usize {
+pub(crate) fn number(rt: &impl Abort, word: &str) -> u32 {
     word.parse().expect(rt, "a number")
 }
 
 /// Appends a text.
 pub(crate) fn push(rt: &impl Abort, out: &mut String, text: &str) {
     out.push_str(text).expect(rt, "memory");
+}
+
+/// Appends how a value is shown, after a blank.
+pub(crate) fn push_shown<T: Debug>(rt: &impl Abort, out: &mut String, value: &T) {
+    write!(out, " {value:?}").expect(rt, "memory");
+}
+
+/// Appends how a fault is shown and what it tells, after a blank.
+pub(crate) fn push_told<T: Debug + Display>(rt: &impl Abort, out: &mut String, fault: &T) {
+    write!(out, " {fault:?}: {fault}").expect(rt, "memory");
 }
 
 /// The bytes of a text, in which `¶` stands for the byte FF.

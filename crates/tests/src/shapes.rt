@@ -1,12 +1,11 @@
 //! Trees that no source gives, and the sizes of nodes.
 
-use crate::expressions::tokens_of_line;
-use crate::rows::source_of;
+use crate::expressions::{expression, extents};
+use crate::rows::push_shown;
 use crate::words::level_of;
-use pyparse::parse_expression;
 use pytree::{
-    Alias, Arg, BoolOperator, Comprehension, Constant, Context, Conversion, Expr, Extent, Handler,
-    Identifier, Integer, Item, Keyword, Level, Points, Stmt, TypeParam, well_formed_at,
+    Alias, Arg, BoolOperator, Comprehension, Constant, Context, Conversion, Expr, Handler,
+    Identifier, Integer, Item, Keyword, Level, Points, Stmt, TypeParam,
 };
 use std::alloc::Global;
 use std::mem;
@@ -107,7 +106,7 @@ pub(crate) const ROWS: &str = "
 ? fits Atom => x {} => false false";
 
 /// How many bytes values of the tree take.
-pub(crate) fn sizes(rt: &impl Abort, alloc: Global) -> String {
+pub(crate) fn sizes(rt: &impl Abort, out: &mut String) {
     let sizes = [
         size_of::<Expr>(),
         size_of::<Stmt>(),
@@ -123,7 +122,7 @@ pub(crate) fn sizes(rt: &impl Abort, alloc: Global) -> String {
         size_of::<Alias>(),
         size_of::<TypeParam>(),
     ];
-    format!(in alloc; "{sizes:?}").expect(rt, "memory")
+    push_shown(rt, out, &sizes);
 }
 
 /// The last of some expressions, which is taken from them.
@@ -138,11 +137,7 @@ fn of_word(rt: &impl Abort, alloc: Global, word: &str) -> Expr {
     let (ctx, text) = match (word.strip_prefix('$'), word.strip_prefix('=')) {
         (Some(text), _) => (Context::Load, text),
         (_, Some(text)) => (Context::Store, text),
-        _ => {
-            let source = source_of(rt, alloc, word);
-            let tokens = tokens_of_line(rt, alloc, &source);
-            return parse_expression(alloc, tokens.as_slice(), Level::Value).expect(rt, "a tree");
-        }
+        _ => return expression(rt, alloc, Level::Value, word).expect(rt, "a tree"),
     };
     let id = Identifier::new(alloc, text).expect(rt, "memory");
     Expr::Name { id, ctx }
@@ -181,16 +176,13 @@ fn next(rt: &impl Abort, alloc: Global, made: &mut Vec<Expr>, word: &str) -> Exp
 }
 
 /// In which extents of the language the expression that words make is well formed at a level.
-pub(crate) fn fits(rt: &impl Abort, alloc: Global, level: &str, words: &str) -> String {
+pub(crate) fn fits(rt: &impl Abort, alloc: Global, out: &mut String, level: &str, words: &str) {
     let mut made = Vec::new(alloc);
     for word in words.split(' ') {
         let tree = next(rt, alloc, &mut made, word);
         made.push(tree).expect(rt, "memory");
     }
     let tree = made.pop().expect(rt, "an expression");
-    let plain = well_formed_at(alloc, &tree, level_of(rt, level), Extent::Plain);
-    let whole = well_formed_at(alloc, &tree, level_of(rt, level), Extent::Whole);
+    extents(rt, alloc, out, &tree, level_of(rt, alloc, level));
     drop(tree);
-    let (plain, whole) = (plain.expect(rt, "memory"), whole.expect(rt, "memory"));
-    format!(in alloc; "{plain} {whole}").expect(rt, "memory")
 }

@@ -1,107 +1,106 @@
-//! What rows show.
+//! Which function shows what of a row, and the test.
 
 use crate::rows::{fields, push, rows};
 use crate::{
-    examples, expressions, fstrings, lexemes, listings, modules, numbers, shapes, sources, tokens,
+    expressions, fstrings, lexemes, listings, modules, numbers, quoted, shapes, sources, tokens,
 };
 use std::alloc::Global;
 use std::process::Abort;
 
-/// What is shown of bytes, lexemes and listings.
+/// Appends what is shown of bytes, lexemes and listings; false where it is nothing of these.
 fn of_source(
     rt: &impl Abort,
     alloc: Global,
+    out: &mut String,
     subject: &str,
     words: &str,
     text: &str,
-) -> Option<String> {
-    Some(match subject {
-        "repr" => sources::repr(rt, alloc, text),
-        "points" => sources::points(rt, alloc, text),
-        "appended" => sources::appended(rt, alloc, text),
-        "decoded" => sources::decoded(rt, alloc, text),
-        "declared" => sources::declared(rt, alloc, text),
-        "place" => sources::place(rt, alloc, words, text),
-        "read-all" => sources::read(rt, alloc, text, words == "fails"),
-        "write-all" => sources::written(rt, alloc, words, text, false),
-        "write-all-or-none" => sources::written(rt, alloc, words, text, true),
-        "lines" => sources::lines(rt, alloc, words, text, false),
-        "lines-fail" => sources::lines(rt, alloc, words, text, true),
-        "rows" => sources::line_rows(rt, alloc, text),
-        "lexeme" => lexemes::lexeme(rt, alloc, text),
-        "exact" => lexemes::exact(rt, alloc, text),
-        "string" => lexemes::string(rt, alloc, text, words),
-        "cursor" => lexemes::cursor(rt, alloc, text),
-        "listed" => listings::listed(rt, alloc, text),
-        "line" => listings::line(rt, alloc, words, text),
-        "streamed" => listings::streamed(rt, alloc, text, words == "fails"),
-        "resumed" => listings::resumed(rt, alloc, words, text, false),
-        "resumed-fails" => listings::resumed(rt, alloc, words, text, true),
-        "beginning" => listings::beginning(rt, alloc, words, text),
-        _ => return None,
-    })
+) -> bool {
+    match subject {
+        "repr" => sources::repr(rt, alloc, out, text),
+        "points" => sources::points(rt, alloc, out, text),
+        "decoded" => sources::decoded(rt, alloc, out, text),
+        "declared" => sources::declared(rt, out, text),
+        "place" => sources::place(rt, out, words, text),
+        "read-all" => sources::read(rt, alloc, out, text, words == "fails"),
+        "write-all" => sources::written(rt, alloc, out, words, text, false),
+        "write-all-or-none" => sources::written(rt, alloc, out, words, text, true),
+        "lines" => sources::lines(rt, alloc, out, words, text, false),
+        "lines-fail" => sources::lines(rt, alloc, out, words, text, true),
+        "rows" => sources::line_rows(rt, alloc, out, text),
+        "lexeme" => lexemes::lexeme(rt, out, text),
+        "exact" => lexemes::exact(rt, out, text),
+        "string" => lexemes::string(rt, out, text, words),
+        "cursor" => lexemes::cursor(rt, alloc, out, text),
+        "listed" => listings::listed(rt, alloc, out, text),
+        "line" => listings::line(rt, out, words, text),
+        "streamed" => listings::streamed(rt, alloc, out, text, words == "fails"),
+        "resumed" => listings::resumed(rt, alloc, out, words, text, false),
+        "resumed-fails" => listings::resumed(rt, alloc, out, words, text, true),
+        _ => return false,
+    }
+    true
 }
 
-/// What is shown of numbers, f-strings, tokens and names.
+/// Appends what is shown of numbers, f-strings, tokens and names; false where it is nothing of
+/// these.
 fn of_token(
     rt: &impl Abort,
     alloc: Global,
+    out: &mut String,
     subject: &str,
     words: &str,
     text: &str,
-) -> Option<String> {
-    Some(match subject {
-        "natural" => numbers::natural(rt, alloc, words, text),
-        "integer" => numbers::integer(rt, alloc, text),
-        "double" => numbers::double(rt, alloc, words, text),
-        "cut" => fstrings::cut(rt, alloc, words, text),
-        "braces" => fstrings::braces(rt, alloc, words, text),
-        "field" => fstrings::field(rt, alloc, text),
-        "terminal" => tokens::terminal(rt, alloc, words, text),
-        "terminals" => tokens::terminals(rt, alloc, text),
-        "number" => tokens::number(rt, alloc, words, text),
-        "literal" => tokens::string(rt, alloc, text),
-        "name" => tokens::name(rt, alloc, text),
-        "tokens" => tokens::tokens(rt, alloc, words, text),
-        "logical" => tokens::logical_lines(rt, alloc, words, text),
-        _ => return None,
-    })
-}
-
-/// What is shown of trees.
-fn of_tree(rt: &impl Abort, alloc: Global, subject: &str, words: &str, text: &str) -> String {
+) -> bool {
     match subject {
-        "read" => expressions::read(rt, alloc, words, text, "bare"),
-        "write" => expressions::write(rt, alloc, words, text),
-        "pattern" => expressions::pattern(rt, alloc, words, text),
-        "expression" => expressions::read(rt, alloc, "Value", text, words),
-        "dump" => modules::dumped(rt, alloc, words, text),
-        "refused" => modules::refused(rt, alloc, text),
-        "unparse" => modules::written(rt, alloc, text),
-        "heights" => modules::measured(rt, alloc, text),
-        "same" => modules::compared(rt, alloc, text),
-        "placed" => modules::placed(rt, alloc, words, text),
-        "spans" => modules::spans(rt, alloc, text),
-        "sizes" => shapes::sizes(rt, alloc),
-        "fits" => shapes::fits(rt, alloc, words, text),
-        "counted" => examples::counted(rt, alloc, text),
-        "gone-on" => examples::gone_on(rt, alloc, text),
-        "rewritten" => examples::rewrote(rt, alloc, text),
-        "around" => examples::around(rt, alloc, text),
-        "assigned" => examples::assigned(rt, alloc, text),
-        "told" => examples::told(rt, alloc, text),
-        _ => panic!(rt; "no subject: {subject:?}"),
+        "natural" => numbers::natural(rt, alloc, out, words, text),
+        "double" => numbers::double(rt, alloc, out, words, text),
+        "cut" => fstrings::cut(rt, alloc, out, words, text),
+        "braces" => fstrings::braces(rt, alloc, out, words, text),
+        "field" => fstrings::field(rt, out, text),
+        "terminal" => tokens::terminal(rt, alloc, out, words, text),
+        "terminals" => tokens::terminals(rt, alloc, out, text),
+        "number" => tokens::number(rt, alloc, out, words, text),
+        "literal" => tokens::string(rt, alloc, out, text),
+        "name" => tokens::name(rt, alloc, out, text),
+        "tokens" => tokens::tokens(rt, alloc, out, words, text),
+        "logical" => tokens::logical(rt, alloc, out, words, text),
+        _ => return false,
     }
+    true
 }
 
-/// What is shown of a text.
-fn shown(rt: &impl Abort, alloc: Global, subject: &str, words: &str, text: &str) -> String {
-    if let Some(told) = of_source(rt, alloc, subject, words, text) {
-        return told;
-    }
-    match of_token(rt, alloc, subject, words, text) {
-        Some(told) => told,
-        None => of_tree(rt, alloc, subject, words, text),
+/// Appends what is shown of trees.
+fn of_tree(
+    rt: &impl Abort,
+    alloc: Global,
+    out: &mut String,
+    subject: &str,
+    words: &str,
+    text: &str,
+) {
+    match subject {
+        "read" => expressions::read(rt, alloc, out, words, text, "bare"),
+        "write" => expressions::write(rt, alloc, out, words, text),
+        "pattern" => expressions::pattern(rt, alloc, out, words, text),
+        "expression" => expressions::read(rt, alloc, out, "Value", text, words),
+        "dump" => modules::dumped(rt, alloc, out, words, text),
+        "refused" => modules::refused(rt, alloc, out, text),
+        "unparse" => modules::written(rt, alloc, out, text),
+        "heights" => modules::measured(rt, alloc, out, text),
+        "same" => modules::compared(rt, alloc, out, text),
+        "placed" => modules::placed(rt, alloc, out, words, text),
+        "spans" => modules::spans(rt, alloc, out, text),
+        "sizes" => shapes::sizes(rt, out),
+        "fits" => shapes::fits(rt, alloc, out, words, text),
+        "counted" => quoted::counted(rt, alloc, out, text),
+        "gone-on" => quoted::gone_on(rt, alloc, out, words, text),
+        "rewritten" => quoted::rewrote(rt, alloc, out, text),
+        "around" => quoted::around(rt, alloc, out, text),
+        "functions" => quoted::defined(rt, alloc, out, text),
+        "assigned" => quoted::assigned(rt, alloc, out, text),
+        "told" => quoted::told(rt, alloc, out, text),
+        _ => panic!(rt; "no subject: {subject:?}"),
     }
 }
 
@@ -109,9 +108,15 @@ fn shown(rt: &impl Abort, alloc: Global, subject: &str, words: &str, text: &str)
 fn check(rt: &impl Abort, alloc: Global, row: &str, wrong: &mut String) {
     let (head, text, due) = fields(rt, row);
     let (subject, words) = head.split_once(' ').unwrap_or((head, ""));
-    let told = shown(rt, alloc, subject, words, text);
-    if told.as_str() != due {
-        let line = format!(in alloc; "{head} of {text:?}: {:?}, not {due:?}\n", told.as_str());
+    let mut out = String::new(alloc);
+    if !of_source(rt, alloc, &mut out, subject, words, text)
+        && !of_token(rt, alloc, &mut out, subject, words, text)
+    {
+        of_tree(rt, alloc, &mut out, subject, words, text);
+    }
+    let told = out.as_str().trim_start_matches(' ');
+    if told != due {
+        let line = format!(in alloc; "{head} of {text:?}: {told:?}, not {due:?}\n");
         push(rt, wrong, line.expect(rt, "memory").as_str());
     }
 }
@@ -129,7 +134,7 @@ fn shows_all(rt: HostRuntime) {
         expressions::ROWS,
         modules::ROWS,
         shapes::ROWS,
-        examples::ROWS,
+        quoted::ROWS,
     ] {
         for row in rows(&rt, table) {
             check(&rt, rt.alloc(), row, &mut wrong);

@@ -3,6 +3,8 @@
 use pygrammar::{Level, PatternLevel};
 use pylex::Kind;
 use pytree::{Extent, Profile, Style};
+use std::alloc::Global;
+use std::fmt::Debug;
 use std::process::Abort;
 
 /// The style of a dump: `names` or `bare`, for with all names or without. After that stands `3.12`
@@ -29,48 +31,65 @@ pub(crate) fn extent_of(name: &str) -> Extent {
     }
 }
 
-/// The level of a name.
-pub(crate) fn level_of(rt: &impl Abort, name: &str) -> Level {
-    match name {
-        "Value" => Level::Value,
-        "Stars" => Level::Stars,
-        "StarItem" => Level::StarItem,
-        "Named" => Level::Named,
-        "Expression" => Level::Expression,
-        "Or" => Level::Or,
-        "Factor" => Level::Factor,
-        "Power" => Level::Power,
-        "Await" => Level::Await,
-        "Primary" => Level::Primary,
-        "Atom" => Level::Atom,
-        "Elem" => Level::Elem,
-        "Slices" => Level::Slices,
-        "Slice" => Level::Slice,
-        _ => panic!(rt; "no level: {name:?}"),
+/// The one of some values that is shown by a name.
+fn named<T: Copy + Debug>(rt: &impl Abort, alloc: Global, all: &[T], name: &str) -> T {
+    for one in all {
+        let shown = format!(in alloc; "{one:?}").expect(rt, "memory");
+        if shown.as_str() == name {
+            return *one;
+        }
     }
+    panic!(rt; "no name: {name:?}");
 }
+
+/// The levels that rows name.
+const LEVELS: &[Level] = &[
+    Level::Value,
+    Level::Stars,
+    Level::StarItem,
+    Level::Named,
+    Level::Expression,
+    Level::Or,
+    Level::Factor,
+    Level::Power,
+    Level::Await,
+    Level::Primary,
+    Level::Atom,
+    Level::Elem,
+    Level::Slices,
+    Level::Slice,
+];
+
+/// The level of a name.
+pub(crate) fn level_of(rt: &impl Abort, alloc: Global, name: &str) -> Level {
+    named(rt, alloc, LEVELS, name)
+}
+
+/// The levels of patterns.
+const PATTERN_LEVELS: &[PatternLevel] = &[
+    PatternLevel::Patterns,
+    PatternLevel::StarPattern,
+    PatternLevel::AsPattern,
+    PatternLevel::OrPattern,
+    PatternLevel::ClosedPattern,
+];
 
 /// The level of patterns of a name.
-pub(crate) fn pattern_level_of(rt: &impl Abort, name: &str) -> PatternLevel {
-    match name {
-        "Patterns" => PatternLevel::Patterns,
-        "StarPattern" => PatternLevel::StarPattern,
-        "AsPattern" => PatternLevel::AsPattern,
-        "OrPattern" => PatternLevel::OrPattern,
-        "ClosedPattern" => PatternLevel::ClosedPattern,
-        _ => panic!(rt; "no level of patterns: {name:?}"),
-    }
+pub(crate) fn pattern_level_of(rt: &impl Abort, alloc: Global, name: &str) -> PatternLevel {
+    named(rt, alloc, PATTERN_LEVELS, name)
 }
 
+/// The types of tokens that rows name.
+const KINDS: &[Kind] = &[
+    Kind::Name,
+    Kind::Number,
+    Kind::String,
+    Kind::Op,
+    Kind::Newline,
+    Kind::Comment,
+];
+
 /// The type of tokens of a name.
-pub(crate) fn kind_of(rt: &impl Abort, name: &str) -> Kind {
-    match name {
-        "Name" => Kind::Name,
-        "Number" => Kind::Number,
-        "String" => Kind::String,
-        "Op" => Kind::Op,
-        "Newline" => Kind::Newline,
-        "Comment" => Kind::Comment,
-        _ => panic!(rt; "no type of tokens: {name:?}"),
-    }
+pub(crate) fn kind_of(rt: &impl Abort, alloc: Global, name: &str) -> Kind {
+    named(rt, alloc, KINDS, name)
 }

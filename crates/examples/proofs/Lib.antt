@@ -1,0 +1,4 @@
+mod ListingLemmas
+mod StreamLemmas
+mod TreeLemmas
+mod WalkLemmas

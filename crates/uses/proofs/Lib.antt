@@ -1,3 +1,0 @@
-mod ListingLemmas
-mod StreamLemmas
-mod TreeLemmas

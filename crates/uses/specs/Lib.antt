@@ -1,6 +1,0 @@
-pub mod Listings
-pub mod Cursors
-pub mod Streams
-pub mod Trees
-pub mod Faults
-pub mod Places
