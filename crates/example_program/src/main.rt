@@ -18,8 +18,11 @@ const LANGUAGE: Profile = Profile {
 
 /// How many parameters a function has: `*args` is one, and so is `**kwargs`.
 fn parameter_count(args: &Arguments) -> usize {
-    let named = args.posonlyargs.len() + args.args.len() + args.kwonlyargs.len();
-    named + usize::from(args.vararg.is_some()) + usize::from(args.kwarg.is_some())
+    let named = args.posonlyargs.len().saturating_add(args.args.len());
+    named
+        .saturating_add(args.kwonlyargs.len())
+        .saturating_add(usize::from(args.vararg.is_some()))
+        .saturating_add(usize::from(args.kwarg.is_some()))
 }
 
 /// A line for each function of a source. The first token `def` is that of the first function, and
