@@ -177,11 +177,6 @@ impl<'a> LogicalLines<'a> {
     /// Goes to the next line: whether there is one. Once there is none, or an error was reported,
     /// each later call answers the same, and changes nothing.
     ///
-    /// The room of the terminals is used again for each line. Besides, memory is taken only where
-    /// an INDENT comes, for the widths of the lines' indentations, and, to find its fault, for a
-    /// name with characters past ASCII and, in the whole language, for an f-string and for a whole
-    /// number from 2^128 on.
-    ///
     /// # Errors
     ///
     /// [`ParseFault::Refused`] by the reason why the source has no tokens, as

@@ -1,11 +1,11 @@
 -- Where the lines of a text start, and the places that are shown by that.
 --
--- Carries: line_starts, lines_up_to, shown_at, Places::new, and the law of shown places.
+-- Carries: line_starts, lines_up_to, shown_at, Places::new.
 use Rattle.std.proofs.Common.{◌≡◌, refl, sym, ap, ◌∙◌, ℕ, zero, suc, ◌+◌, ◌-◌, ◌<◌, ◌≤◌, arith, List, [], ◌∷◌, Bool, true, false}
 use Rattle.std.proofs.Common.{cond}
 use Rattle.pysource.specs.Limits.{source_limit}
 use Rattle.std.proofs.Common.{◌==◌, ◌^◌, subst, length, drop, get_or, nat_lt}
-use Rattle.std.specs.Prelude.{count_by, nat_le, slice_index, slice_index_or, take, map}
+use Rattle.std.specs.Prelude.{nat_le, slice_index, slice_index_or, map}
 use Rattle.std.proofs.lemmas.Bool.{ltb-true, ltb-false, leb-true, leb-false}
 use Rattle.pytree_marked.specs.MarkedNodes.{Attributes}
 use Rattle.pytree_marked.specs.Taking.{attributes, is_none_left}
@@ -17,7 +17,6 @@ use Rattle.std.proofs.lemmas.List.{drop_all, drop_more}
 use Rattle.std.proofs.lemmas.List.Sums.{sum_by-cons}
 use Rattle.pylex_lexeme.specs.Characters.{line_feed}
 use Rattle.pyplaces.specs.LineStarts.{Rising, attributes_by, byte_by, line_by, line_starts, starts_after}
-use Rattle.pyplaces.specs.ModulePlaces.{byte_at, line_at}
 
 -- ---- The loop over a text: the starts so far, and those after.
 
@@ -92,74 +91,6 @@ counted_at (s ∷ ss) n (suc r) within low high =
     let more : r ≡ line_by ss n = counted_at ss n r (omega (arith, within)) (λ k h. low (suc k) (omega (arith, h)))
     (λ k h l. high (suc k) (omega (arith, h)) (omega (arith, l))) in
     let this : line_by (s ∷ ss) n ≡ 1 + r = counts n s ss true r (passes s n (low 0 (omega arith))) (sym more) in omega (arith, this)
-
--- ---- Shown places of a text are those by its starts.
-
-up_after : (x : Bool) (b n : ℕ) (ss : List ℕ) (m : ℕ) → line_by ss (b + suc n) ≡ m
-    → line_by (cond x (suc b ∷ ss) ss) (b + suc n) ≡ cond x 1 0 + m
-up_after true b n ss m h = counts (b + suc n) (suc b) ss true m (passes (suc b) (b + suc n) (omega arith)) h
-up_after false b n ss m h = h ∙ omega arith
-
--- an offset in a text: of its starts so many are no greater as there are LFs before it
-starts_up_to : (b n : ℕ) (cs : List ℕ) → line_by (starts_after b cs) (b + n) ≡ count_by (λ c. c == line_feed) (take n cs)
-starts_up_to b zero cs = none_counted (b + 0) (starts_after b cs) (λ k h. let m = starts_greater b cs k h in omega (arith, m))
-starts_up_to b (suc n) [] = refl
-starts_up_to b (suc n) (c ∷ cs) =
-    let moved : b + suc n ≡ suc b + n = omega arith in
-    up_after (c == line_feed) b n (starts_after (suc b) cs) (count_by (λ c. c == line_feed) (take n cs))
-    (ap (line_by (starts_after (suc b) cs)) moved ∙ starts_up_to (suc b) n cs)
-    ∙ sym (sum_by-cons (λ c. cond (c == line_feed) 1 0) c (take n cs))
-
-pub line_law : (cs : List ℕ) (n : ℕ) → line_by (line_starts cs) n ≡ line_at n cs
-line_law cs n =
-    let h : 0 + n ≡ n = omega arith in
-    let k : line_by (starts_after 0 cs) n ≡ count_by (λ c. c == line_feed) (take n cs) =
-    ap (line_by (starts_after 0 cs)) (sym h) ∙ starts_up_to 0 n cs in
-    counts n 0 (starts_after 0 cs) true _ (passes 0 n (omega arith)) k
-
--- the bytes since the last start: of a line feed, and of another byte
-byte_after : (x : Bool) (b n column r : ℕ) (ss : List ℕ) → column ≤ b
-    → (x ≡ true → r ≡ (suc b + n) - slice_index ((suc b - 0) ∷ ss) (line_by ss (suc b + n)))
-    → (x ≡ false → r ≡ (suc b + n) - slice_index ((suc b - suc column) ∷ ss) (line_by ss (suc b + n)))
-    → r ≡ (b + suc n) - slice_index ((b - column) ∷ cond x (suc b ∷ ss) ss) (line_by (cond x (suc b ∷ ss) ss) (b + suc n))
-byte_after true b n column r ss h f g =
-    let moved : suc b + n ≡ b + suc n = omega arith in
-    let same : suc b - 0 ≡ suc b = omega arith in
-    let one : line_by (suc b ∷ ss) (b + suc n) ≡ 1 + line_by ss (b + suc n) =
-    counts (b + suc n) (suc b) ss true (line_by ss (b + suc n)) (passes (suc b) (b + suc n) (omega arith)) refl in
-    let next : 1 + line_by ss (b + suc n) ≡ suc (line_by ss (b + suc n)) = omega arith in
-    f refl
-    ∙ (ap (λ m. m - slice_index ((suc b - 0) ∷ ss) (line_by ss m)) moved
-    ∙ (ap (λ y. (b + suc n) - slice_index (y ∷ ss) (line_by ss (b + suc n))) same
-    ∙ ap (λ i. (b + suc n) - slice_index ((b - column) ∷ (suc b ∷ ss)) i) (sym (one ∙ next))))
-byte_after false b n column r ss h f g =
-    let moved : suc b + n ≡ b + suc n = omega arith in
-    let same : suc b - suc column ≡ b - column = omega arith in
-    g refl
-    ∙ (ap (λ m. m - slice_index ((suc b - suc column) ∷ ss) (line_by ss m)) moved
-    ∙ ap (λ y. (b + suc n) - slice_index (y ∷ ss) (line_by ss (b + suc n))) same)
-
-byte_from : (n b column : ℕ) (cs : List ℕ) → column ≤ b → n ≤ length cs
-    → byte_at n column cs ≡ (b + n) - slice_index ((b - column) ∷ starts_after b cs) (line_by (starts_after b cs) (b + n))
-byte_from zero b column cs h k =
-    let none : line_by (starts_after b cs) (b + 0) ≡ 0 =
-    none_counted (b + 0) (starts_after b cs) (λ k h. let m = starts_greater b cs k h in omega (arith, m)) in
-    let e : column ≡ (b + 0) - (b - column) = omega (arith, h) in
-    e ∙ ap (λ m. (b + 0) - slice_index ((b - column) ∷ starts_after b cs) m) (sym none)
-byte_from (suc n) b column [] h k = absurd (omega (arith, k))
-byte_from (suc n) b column (c ∷ cs) h k =
-    byte_after (c == line_feed) b n column (byte_at n (cond (c == line_feed) 0 (suc column)) cs) (starts_after (suc b) cs) h
-    (λ t. ap (λ x. byte_at n (cond x 0 (suc column)) cs) t ∙ byte_from n (suc b) 0 cs (omega arith) (omega (arith, k)))
-    (λ t. ap (λ x. byte_at n (cond x 0 (suc column)) cs) t ∙ byte_from n (suc b) (suc column) cs (omega (arith, h)) (omega (arith, k)))
-
-pub byte_law : (cs : List ℕ) (n : ℕ) → n ≤ length cs → byte_by (line_starts cs) n ≡ byte_at n 0 cs
-byte_law cs n h =
-    let st : List ℕ = starts_after 0 cs in
-    let same : 0 + n ≡ n = omega arith in
-    let one : line_by (0 ∷ st) n ≡ 1 + line_by st n = counts n 0 st true (line_by st n) (passes 0 n (omega arith)) refl in
-    let less : line_by (0 ∷ st) n - 1 ≡ line_by st n = omega (arith, one) in
-    ap (λ i. n - slice_index (0 ∷ st) i) less
-    ∙ sym (byte_from n 0 0 cs (omega arith) h ∙ ap (λ m. m - slice_index (0 ∷ st) (line_by st m)) same)
 
 pub starts_hold : (starts cs : List ℕ) → starts ≡ line_starts cs → length cs ≤ source_limit → Rising starts × (length starts < 2 ^ 32)
 starts_hold starts cs h k =

@@ -3,10 +3,10 @@
 //!
 //! [`decode`] makes a [`Source`] of the bytes of a file: it finds the encoding that the first two
 //! lines declare, and gives the text of the lines before the first faulty one, and that line's
-//! fault; [`decode_vec`] does so without a copy of the bytes. [`LineReader`] gives the same line by
-//! line, from a reader that is lent to each call, and [`Chunks`] from a reader of its own; there a
-//! failed read is the fault of the line that it cut off. [`place_of`] gives the row and column of
-//! an offset of a text. [`repr_text`], [`push_repr`], [`push_repr_points`], [`repr_bytes`] and
+//! fault; [`decode_vec`] does so of bytes that it owns. [`LineReader`] gives the same line by line,
+//! from a reader that is lent to each call, and [`Chunks`] from a reader of its own; there a failed
+//! read is the fault of the line that it cut off. [`place_of`] gives the row and column of an
+//! offset of a text. [`repr_text`], [`push_repr`], [`push_repr_points`], [`repr_bytes`] and
 //! [`push_repr_bytes`] write what Python's `repr` writes. [`ByteIn`] and [`ByteOut`] are readers and
 //! writers of bytes that count their failures, with [`read_all`] and [`write_all`] over them.
 //!

@@ -240,14 +240,13 @@ pub fn decode(alloc: Global, bytes: &[u8]) -> Result<Source, SourceFault>
     }
 }
 
-/// The source that the bytes of a file are, as [`decode`] gives it. Where all of them are text,
-/// which is where no line is faulty and no byte order mark stands in front, they become the
-/// source's own and aren't copied.
+/// The source that the bytes of a file are, as [`decode`] gives it.
 pub fn decode_vec(alloc: Global, bytes: Vec<u8>) -> Result<Source, SourceFault>
     requires { length bytes.items ≤ source_limit }
     ensures { UnlessMemory result (source_of bytes.items) }
 {
     let encoding = declared(bytes.as_slice())?;
+    // Where all bytes are text they become the source's own, which spares a copy.
     if has_mark(bytes.as_slice()) || first_bad(encoding.charset(), bytes.as_slice()).is_some() {
         return decode(alloc, bytes.as_slice());
     }

@@ -1,19 +1,22 @@
--- What blocks, handlers and cases show and weigh.
+-- What blocks, handlers and cases show.
 --
--- Carries: the cycle of statements.
-use Rattle.std.proofs.Common.{◌≡◌, ℕ, ◌+◌, ◌<◌, ◌≤◌, List, [], ◌∷◌, Option, Some, None, codes, refl, ap, sym, ◌∙◌, map, arith}
+-- Carries: the nodes of statements, the cycle of statements.
+use Rattle.std.proofs.Common.{◌≡◌, List, [], ◌∷◌, codes, length, refl, ap, sym, ◌∙◌, map}
+use Rattle.std.proofs.lemmas.List.{length-map}
 use Rattle.pytree_node.specs.declared.profiles.Profile.{Profile}
 use Rattle.pytree_node.specs.declared.statements.Case as given_case
 use Rattle.pytree_node.specs.declared.statements.Handler as given_handler
 use Rattle.pytree_node.specs.declared.statements.Stmt as given_stmt
 use Rattle.pytree_node.specs.Trees
-use Rattle.pytree_node.specs.Trees.{Identifier, stmts, cases, handlers}
+use Rattle.pytree_node.specs.Trees.{stmts, cases, handlers}
 use Rattle.pytree_node.specs.TreeOf.{case_of, handler_of, option_of, pattern_of, stmt_of}
 use Rattle.pytree_node.proofs.Callers.StmtShapes.{case_tree, handler_tree}
-use Rattle.pytree_dump_text.specs.Shows.{Fields, Node, Row, a_shown, a_field, no_field, expr_field, name_field, showns}
+use Rattle.pytree_dump_text.specs.Shows.{Row, a_shown, a_field, no_field, expr_field, name_field, showns}
 use Rattle.pytree_dump_text.specs.Shows.{shown_stmt, shown_stmts, shown_cases, shown_handlers, shown_pattern}
 use Rattle.pytree_dump_text.specs.Blocks.{shown_block, shown_case, shown_handler}
-use Rattle.pytree_dump.specs.Inner.Weights.{weight, field_weights}
+use Rattle.pytree_dump.specs.declared.branches.Branches.{Branches}
+use Rattle.pytree_dump.specs.declared.branches.Branches.TheVariants as branches
+use Rattle.pytree_dump.specs.Inner.Branches.{branches_len, branches_shown}
 
 pub stmts_row : (p : Profile) (ss : List given_stmt.Stmt) → shown_stmts p (stmts (map stmt_of ss)) ≡ showns
     (map (λ s. shown_stmt p (stmt_of s)) ss)
@@ -30,68 +33,39 @@ pub cases_row : (p : Profile) (cs : List given_case.Case) → shown_cases p (cas
 cases_row p [] = refl
 cases_row p (c ∷ cs) = ap (λ z. a_shown (shown_case p (case_of c)) z) (cases_row p cs)
 
-pub ruleset block_rows = (stmts_row, handlers_row, cases_row)
-
--- a field that may be absent weighs nothing or more
-pub expr_weighs : (name : List ℕ) (e : Option Trees.Expr) (rest : Fields) → field_weights rest ≤ field_weights (expr_field name e rest)
-expr_weighs name None rest = omega arith
-expr_weighs name (Some e) rest = omega arith
-
-pub name_weighs : (key : List ℕ) (name : Option Identifier) (rest : Fields) → field_weights rest ≤ field_weights (name_field key name rest)
-name_weighs key None rest = omega arith
-name_weighs key (Some n) rest = omega arith
-
 -- a handler of the program, by its fields
 pub handler_shows : (p : Profile) (h : given_handler.Handler) (body : List given_stmt.Stmt)
     → body ≡ (given_handler.out-Handler h).body.items →
-    Node (codes "ExceptHandler") (expr_field (codes "type") (option_of (given_handler.out-Handler h).class)
-    (name_field (codes "name") (given_handler.out-Handler h).name (a_field (codes "body") (shown_block p body) no_field)))
-    ≡ shown_handler p (handler_of h)
+    expr_field (codes "type") (option_of (given_handler.out-Handler h).class)
+    (name_field (codes "name") (given_handler.out-Handler h).name (a_field (codes "body") (shown_block p body) no_field))
+    ≡ expr_field (codes "type") (handler_of h).class
+    (name_field (codes "name") (handler_of h).name (a_field (codes "body") (Row (shown_stmts p (stmts (handler_of h).body))) no_field))
 handler_shows p h body same =
-    (λ i. Node (codes "ExceptHandler") (expr_field (codes "type") (option_of (given_handler.out-Handler h).class)
-    (name_field (codes "name") (given_handler.out-Handler h).name (a_field (codes "body") (shown_block p (same i)) no_field))))
-    ∙ (λ i. Node (codes "ExceptHandler") (expr_field (codes "type") (option_of (given_handler.out-Handler h).class)
+    (λ i. expr_field (codes "type") (option_of (given_handler.out-Handler h).class)
+    (name_field (codes "name") (given_handler.out-Handler h).name (a_field (codes "body") (shown_block p (same i)) no_field)))
+    ∙ (λ i. expr_field (codes "type") (option_of (given_handler.out-Handler h).class)
     (name_field (codes "name") (given_handler.out-Handler h).name
-    (a_field (codes "body") (Row (sym (stmts_row p (given_handler.out-Handler h).body.items) i)) no_field))))
-    ∙ ap (shown_handler p) (sym (handler_tree h))
-
--- its block weighs less
-pub handler_weighs : (p : Profile) (h : given_handler.Handler) (body : List given_stmt.Stmt)
-    → body ≡ (given_handler.out-Handler h).body.items →
-    weight (shown_block p body) < weight (shown_handler p (handler_of h))
-handler_weighs p h body same =
-    let last : Fields = a_field (codes "body") (shown_block p body) no_field in
-    let named : Fields = name_field (codes "name") (given_handler.out-Handler h).name last in
-    let e : field_weights (expr_field (codes "type") (option_of (given_handler.out-Handler h).class) named) + 1 ≡ weight
-    (shown_handler p (handler_of h)) =
-    ap weight (handler_shows p h body same) in
-    omega (
-      arith,
-      e,
-      expr_weighs (codes "type") (option_of (given_handler.out-Handler h).class) named,
-      name_weighs (codes "name") (given_handler.out-Handler h).name last,
-    )
+    (a_field (codes "body") (Row (sym (stmts_row p (given_handler.out-Handler h).body.items) i)) no_field)))
+    ∙ ap (λ (t : Trees.Handler). expr_field (codes "type") t.class
+    (name_field (codes "name") t.name (a_field (codes "body") (Row (shown_stmts p (stmts t.body))) no_field))) (sym (handler_tree h))
 
 -- a case of the program, by its fields
 pub case_shows : (p : Profile) (c : given_case.Case) (body : List given_stmt.Stmt) → body ≡ (given_case.out-Case c).body.items →
-    Node (codes "match_case") (a_field (codes "pattern") (shown_pattern (pattern_of (given_case.out-Case c).pattern))
-    (expr_field (codes "guard") (option_of (given_case.out-Case c).guard) (a_field (codes "body") (shown_block p body) no_field)))
-    ≡ shown_case p (case_of c)
+    a_field (codes "pattern") (shown_pattern (pattern_of (given_case.out-Case c).pattern))
+    (expr_field (codes "guard") (option_of (given_case.out-Case c).guard) (a_field (codes "body") (shown_block p body) no_field))
+    ≡ a_field (codes "pattern") (shown_pattern (case_of c).pattern)
+    (expr_field (codes "guard") (case_of c).guard (a_field (codes "body") (Row (shown_stmts p (stmts (case_of c).body))) no_field))
 case_shows p c body same =
-    (λ i. Node (codes "match_case") (a_field (codes "pattern") (shown_pattern (pattern_of (given_case.out-Case c).pattern))
-    (expr_field (codes "guard") (option_of (given_case.out-Case c).guard) (a_field (codes "body") (shown_block p (same i)) no_field))))
-    ∙ (λ i. Node (codes "match_case") (a_field (codes "pattern") (shown_pattern (pattern_of (given_case.out-Case c).pattern))
+    (λ i. a_field (codes "pattern") (shown_pattern (pattern_of (given_case.out-Case c).pattern))
+    (expr_field (codes "guard") (option_of (given_case.out-Case c).guard) (a_field (codes "body") (shown_block p (same i)) no_field)))
+    ∙ (λ i. a_field (codes "pattern") (shown_pattern (pattern_of (given_case.out-Case c).pattern))
     (expr_field (codes "guard") (option_of (given_case.out-Case c).guard)
-    (a_field (codes "body") (Row (sym (stmts_row p (given_case.out-Case c).body.items) i)) no_field))))
-    ∙ ap (shown_case p) (sym (case_tree c))
+    (a_field (codes "body") (Row (sym (stmts_row p (given_case.out-Case c).body.items) i)) no_field)))
+    ∙ ap (λ (t : Trees.Case). a_field (codes "pattern") (shown_pattern t.pattern)
+    (expr_field (codes "guard") t.guard (a_field (codes "body") (Row (shown_stmts p (stmts t.body))) no_field))) (sym (case_tree c))
 
--- its block weighs less
-pub case_weighs : (p : Profile) (c : given_case.Case) (body : List given_stmt.Stmt) → body ≡ (given_case.out-Case c).body.items →
-    weight (shown_block p body) < weight (shown_case p (case_of c))
-case_weighs p c body same =
-    let last : Fields = a_field (codes "body") (shown_block p body) no_field in
-    let guarded : Fields = expr_field (codes "guard") (option_of (given_case.out-Case c).guard) last in
-    let e : weight (shown_pattern (pattern_of (given_case.out-Case c).pattern)) + field_weights guarded + 1 ≡ weight
-    (shown_case p (case_of c)) =
-    ap weight (case_shows p c body same) in
-    omega (arith, e, expr_weighs (codes "guard") (option_of (given_case.out-Case c).guard) last)
+-- how long a list is
+pub branches_count : (p : Profile) (xs : Branches) → length (branches_shown p xs) ≡ branches_len xs
+branches_count p (branches.Stmts xs) = length-map xs.now (λ s. shown_stmt p (stmt_of s))
+branches_count p (branches.Handlers xs) = length-map xs.now (λ h. shown_handler p (handler_of h))
+branches_count p (branches.Cases xs) = length-map xs.now (λ c. shown_case p (case_of c))

@@ -8,7 +8,7 @@ use Rattle.std.proofs.lemmas.List.{append-nil, append_assoc}
 use Rattle.pytree_node.specs.declared.operators.Context.{Context}
 use Rattle.pysource.specs.Reprs.{repr_text}
 use Rattle.pytree_dump_text.specs.declared.styles.Style.{Style}
-use Rattle.pytree_dump_text.specs.Shows.{Shown, Fields, Row, a_field, context_name, no_field, shown_name, showns, word}
+use Rattle.pytree_dump_text.specs.Shows.{Shown, Fields, Row, a_field, context_name, left_out, no_field, shown_name, showns, word}
 use Rattle.pytree_dump_text.specs.Layout.{deeper, fields, is_flat, is_short, text}
 use Rattle.pytree_dump_text.specs.Slots.{node_text}
 use Rattle.pytree_marked.specs.Appends.{Appends, AppendsNode}
@@ -56,6 +56,32 @@ attribute_text s f x y v c o0 o1 o2 o3 is same e1 e2 e3 =
     ∙ ap (λ z. o0 ++ z) (sym
     (one_line s f (codes "Attribute(")
     (a_field (codes "value") v (a_field (codes "attr") (shown_name x) (a_field (codes "ctx") (word (context_name c)) no_field))) is))
+
+-- one field, of what begins it and of its value
+value_parts : (o p l v b : List ℕ) → o ++ (p ++ (l ++ v ++ []) ++ b) ≡ ((o ++ (p ++ l)) ++ v) ++ b
+value_parts o p l v b = simp (append_assoc, append-nil) refl
+
+pub value_text : (s : Style) (f start k : List ℕ) (x : Shown) (o0 o1 o2 o3 : List ℕ) → (is_flat s.indent && s.names) ≡ true →
+    o1 ≡ o0 ++ (start ++ (k ++ codes "=")) → o2 ≡ o1 ++ text s f x → o3 ≡ o2 ++ codes ")" →
+    o3 ≡ o0 ++ node_text s f start (a_field k x no_field)
+value_text s f start k x o0 o1 o2 o3 is e1 e2 e3 =
+    e3 ∙ (λ i. (e2 ∙ (λ j. e1 j ++ text s f x)) i ++ codes ")")
+    ∙ sym (value_parts o0 start (k ++ codes "=") (text s f x) (codes ")"))
+    ∙ ap (λ w. o0 ++ w) (sym (one_line s f start (a_field k x no_field) is))
+
+-- the fields of an assignment
+two_parts : (o p l v c x b : List ℕ) → o ++ (p ++ (l ++ v ++ (c ++ x ++ [])) ++ b) ≡ (((o ++ (p ++ l)) ++ v) ++ c) ++ x ++ b
+two_parts o p l v c x b = simp (append_assoc, append-nil) refl
+
+pub assigned_text : (s : Style) (f : List ℕ) (x y : Shown) (o0 o1 o2 o3 o4 o5 : List ℕ) → (is_flat s.indent && s.names) ≡ true →
+    o1 ≡ o0 ++ codes "Assign(targets=" → o2 ≡ o1 ++ text s f x → o3 ≡ o2 ++ codes ", value=" → o4 ≡ o3 ++ text s f y →
+    o5 ≡ o4 ++ codes ")" →
+    o5 ≡ o0 ++ node_text s f (codes "Assign(") (a_field (codes "targets") x (a_field (codes "value") y (left_out no_field)))
+assigned_text s f x y o0 o1 o2 o3 o4 o5 is e1 e2 e3 e4 e5 =
+    e5 ∙ (λ i. (e4 ∙ (λ j. (e3 ∙ (λ h. (e2 ∙ (λ g. e1 g ++ text s f x)) h ++ codes ", value=")) j ++ text s f y)) i ++ codes ")")
+    ∙ sym (two_parts o0 (codes "Assign(") (codes "targets=") (text s f x) (codes ", value=") (text s f y) (codes ")"))
+    ∙ ap (λ w. o0 ++ w) (sym (one_line s f (codes "Assign(")
+    (a_field (codes "targets") x (a_field (codes "value") y (left_out no_field))) is))
 
 -- the fields of a node that has three
 three_parts : (o p l v c m x d n y b : List ℕ) →

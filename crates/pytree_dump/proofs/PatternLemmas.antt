@@ -6,12 +6,8 @@ use Rattle.pytree_node.specs.declared.patterns.Pattern as given_pattern
 use Rattle.pytree_node.specs.Trees.{patterns}
 use Rattle.pytree_node.specs.TreeOf.{pattern_of}
 use Rattle.pytree_dump_text.specs.Shows.{a_shown, shown_pattern, shown_patterns, showns}
-use Rattle.pytree_dump.proofs.RowLemmas.{exprs_row, names_row}
 
 pub patterns_row : (ps : List given_pattern.Pattern) → shown_patterns (patterns (map pattern_of ps)) ≡ showns
     (map (λ p. shown_pattern (pattern_of p)) ps)
 patterns_row [] = refl
 patterns_row (p ∷ ps) = ap (λ z. a_shown (shown_pattern (pattern_of p)) z) (patterns_row ps)
-
--- the lists of patterns
-pub ruleset pattern_rows = (exprs_row, names_row, patterns_row)

@@ -6,24 +6,18 @@ use Rattle.std.proofs.Common.{map, get_or, Result, Ok, Err, IfOk, OnOk, subst}
 use Rattle.std.proofs.lemmas.Bool.{both_ways}
 use Rattle.std.proofs.lemmas.List.{append-nil, append_assoc, drop_all}
 use Rattle.pytree_node.specs.declared.profiles.Profile.{Profile}
-use Rattle.pytree_node.specs.declared.profiles.Version.TheVariants.{Py311, Py312}
 use Rattle.pytree_node.specs.declared.statements.Stmt as given_stmt
-use Rattle.pytree_node.specs.declared.statements.TypeParam as given_type_param
-use Rattle.pytree_node.specs.Profiles.{python}
-use Rattle.pytree_node.specs.Trees
-use Rattle.pytree_node.specs.TreeOf.{stmt_of, type_param_of}
+use Rattle.pytree_node.specs.TreeOf.{stmt_of}
 use Rattle.pytree_dump_text.specs.Blocks.{shown_block}
 use Rattle.pytree_dump_text.specs.declared.styles.Style.{Style}
 use Rattle.pytree_dump_text.specs.declared.lines.Told.{Told}
 use Rattle.pytree_dump_text.specs.Shows.{Shown, Showns, Fields, Row, Node, a_field, left_out, no_field, no_shown, showns}
-use Rattle.pytree_dump_text.specs.Shows.{shown_module, shown_type_param}
+use Rattle.pytree_dump_text.specs.Shows.{shown_module}
 use Rattle.pytree_dump_text.specs.Layout.{before, deeper, dump_text, fields, is_flat, is_short, label, members, text}
 use Rattle.pytree_dump_text.specs.Slots.{Slot, missing, field, coming, is_missing, slot_name, slot_shown, with_slot}
 use Rattle.pytree_marked.specs.MarkedNodes.{Attributes, Placed, placed, following, closed, fields_with, rows_with, with_places}
 use Rattle.pytree_marked.specs.Appends.{Appends, AppendsField, AppendsNode, coming_with}
-use Rattle.pytree_dump.specs.Inner.TypeParams.{type_params_before}
 use Rattle.pytree_dump.proofs.BlockLemmas.{stmts_row}
-use Rattle.pytree_dump.proofs.RowLemmas.{type_params_row}
 use Rattle.pytree_dump.proofs.TextLemmas.{dropped, node_shown}
 
 parts3 : (o a b c : List ℕ) → o ++ a ++ b ++ c ≡ o ++ (a ++ b ++ c)
@@ -33,9 +27,6 @@ parts4 : (o a b c d : List ℕ) → o ++ a ++ b ++ c ++ d ≡ o ++ (a ++ b ++ c 
 parts4 o a b c d = simp append_assoc refl
 
 -- ---- Scalars and words.
-
-pub word_whole : (start : List ℕ) → start ++ codes ")" ≡ start ++ [] ++ codes ")"
-word_whole start = ap (λ z. z ++ codes ")") (sym (append-nil start))
 
 -- what takes no place
 pub bare_appended : (s : Style) (f o o1 : List ℕ) (x : Shown) (ps : List Attributes) → with_places ps x ≡ placed x ps →
@@ -98,18 +89,6 @@ then_field {s} {f} {g} {o} {o1} {o2} {ps} {ps1} {ps2} {t} {t1} {t2} {F} {G} a sa
       ∙ (λ i. o1 ++ coming_with m s (same i) ps1 t1 (G rest)) ∙ a.text m (G rest);
   left = λ rest. b.left rest ∙ a.left (G rest);
 }
-
--- a field that is told in another form
-pub as_field : {s : Style} {f o o1 : List ℕ} {ps ps1 : List Attributes} {t t1 : Told} {F G : Fields → Fields} →
-    ((rest : Fields) → F rest ≡ G rest) → AppendsField s f o o1 ps ps1 t t1 F → AppendsField s f o o1 ps ps1 t t1 G
-as_field {s} {f} {o} {o1} {ps} {ps1} {t} {t1} {F} {G} is a = record {
-  text = λ m rest. a.text m rest ∙ (λ i. o ++ coming_with m s f ps t (is rest i));
-  left = λ rest. a.left rest ∙ (λ i. (fields_with ps (is rest i)).left);
-}
-
--- no field
-pub nothing_appended : (s : Style) (f o : List ℕ) (ps : List Attributes) (t : Told) → AppendsField s f o o ps ps t t (λ rest. rest)
-nothing_appended s f o ps t = record { text = λ m rest. refl; left = λ rest. refl }
 
 -- ---- Nodes.
 
@@ -195,34 +174,12 @@ shown_as s f o o1 ps ps1 x y same e = (
       ∙ (λ i. (with_places ps (same i)).left),
 )
 
-pub node_as : (s : Style) (f o o1 start : List ℕ) (ps ps1 : List Attributes) {fs gs : Fields} → fs ≡ gs →
-    AppendsNode true s f o o1 ps ps1 start fs → AppendsNode true s f o o1 ps ps1 start gs
-node_as s f o o1 start ps ps1 e h = subst (λ z. AppendsNode true s f o o1 ps ps1 start z) e h
-
 pub shown_on : {T E : Type 0} (s : Style) (f o o1 : List ℕ) (ps ps1 : List Attributes) (r : Result T E) (x y : Shown) → x ≡ y
     → OnOk r (Appends s f o o1 ps ps1 x) → OnOk r (Appends s f o o1 ps ps1 y)
 shown_on s f o o1 ps ps1 (Ok z) x y same e = shown_as s f o o1 ps ps1 x y same e
 shown_on s f o o1 ps ps1 (Err z) x y same e = tt
 
--- ---- Parameters of a type, and modules.
-
-pub if_ok : {T E : Type 0} {P Q : T → Type 0} (r : Result T E) → ((x : T) → P x → Q x) → IfOk r P → IfOk r Q
-if_ok (Ok x) f h = f x h
-if_ok (Err e) f h = tt
-
-pub bare_params : (s : Style) (f o : List ℕ) (ps : List Attributes) (t : Told) (xs : List Trees.TypeParam) → s.profile.version ≡ Py311 →
-    AppendsField s f o o ps ps t t (type_params_before s.profile xs)
-bare_params s f o ps t xs is = as_field (λ rest. λ i. type_params_before (python (sym is i) s.profile.extent) xs rest)
-    (nothing_appended s f o ps t)
-
-pub shown_params : {s : Style} {f o o1 : List ℕ} {ps ps1 : List Attributes} {t next : Told} (xs : List given_type_param.TypeParam)
-    → s.profile.version ≡ Py312 →
-    AppendsField s f o o1 ps ps1 t next
-    (λ rest. a_field (codes "type_params") (Row (showns (map (λ p. shown_type_param (type_param_of p)) xs))) rest) →
-    AppendsField s f o o1 ps ps1 t next (type_params_before s.profile (map type_param_of xs))
-shown_params {s} xs is h =
-    as_field (λ rest. (λ i. a_field (codes "type_params") (Row (sym (type_params_row xs) i)) rest)
-    ∙ (λ i. type_params_before (python (sym is i) s.profile.extent) (map type_param_of xs) rest)) h
+-- ---- Modules.
 
 pub module_line : (flat line : Bool) (ps : List Attributes) (p : Profile) (body : List given_stmt.Stmt) →
     line ≡ (flat || is_short (a_field (codes "body") (shown_block p body) (a_field (codes "type_ignores") (Row no_shown) no_field))) →

@@ -1,7 +1,6 @@
 -- What a list of a tree shows, member by member, and what it weighs.
 --
--- Carries: show_expr, show_comprehension, show_stmt, show_stmts, show_handlers, show_function,
--- show_two, show_three and 8 more.
+-- Carries: the nodes of expressions and statements, and what shows them.
 use Rattle.std.proofs.Common.{◌≡◌, ℕ, zero, suc, ◌+◌, ◌<◌, ◌≤◌, length, get_or, arith, List, [], ◌∷◌, map, ap, refl, Option, None, Some}
 use Rattle.pytree_node.specs.declared.expressions.Expr.{Expr}
 use Rattle.pytree_node.specs.declared.expressions.Comprehension.{Comprehension}
@@ -70,11 +69,6 @@ pub type_params_row : (all : List TypeParam) → shown_type_params (map type_par
     (map (λ p. shown_type_param (type_param_of p)) all)
 type_params_row [] = refl
 type_params_row (p ∷ all) = ap (λ z. a_shown (shown_type_param (type_param_of p)) z) (type_params_row all)
-
-pub ruleset rows = (exprs_row, optionals_row, comprehensions_row, keywords_row, args_row, comparisons_row)
-
--- the lists of statements
-pub ruleset stmt_rows = (exprs_row, keywords_row, names_row, aliases_row, items_row, type_params_row)
 
 -- an expression that may be absent, within an expression and within a statement
 pub boxed_field : (name : List ℕ) (e : Option Trees.Expr) (rest : Fields) → optional_field name (optional e) rest ≡ expr_field name e rest

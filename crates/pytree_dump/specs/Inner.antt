@@ -1,5 +1,5 @@
+pub mod Branches
 pub mod Definitions
 pub mod Nodes
 pub mod Pieces
 pub mod Weights
-pub mod TypeParams

@@ -1,373 +1,262 @@
-//! The dump of statements with blocks.
+//! The nodes of statements with blocks, and of their handlers and cases.
 
-ghost use Rattle.std.specs.Prelude.{◌≡◌, OnOk, codes, map, IfOk, true};
-ghost use Rattle.std.specs.String.{string_bytes};
-ghost use Rattle.pytree_dump_text.specs.Blocks.{listed, shown_block};
-ghost use Rattle.pytree_dump_text.specs.Shows.{a_field, left_out, no_field, shown, shown_item};
-ghost use Rattle.pytree_dump_text.specs.Shows.{shown_stmt};
-ghost use Rattle.pytree_node.specs.TreeOf.{class_def_of, function_def_of, item_of, tree_of, try_of};
-ghost use Rattle.pytree_node.specs.TreeOf.{type_param_of};
-ghost use Rattle.pytree_marked.specs.Appends.{Appends, AppendsField, AppendsNode};
+ghost use Rattle.std.specs.Prelude.{◌≡◌, ◌-◌, ◌≤◌, codes, if◌then◌else◌, true};
+ghost use Rattle.pytree_dump_text.specs.Blocks.{listed, shown_block, shown_case, shown_handler, shown_matched};
+ghost use Rattle.pytree_dump_text.specs.Shows.{a_field, left_out, no_field, shown, shown_item, shown_stmt};
+ghost use Rattle.pytree_node.specs.Profiles.{has_types};
+ghost use Rattle.pytree_node.specs.TreeOf.{case_of, class_def_of, function_def_of, handler_of, item_of, tree_of, try_of};
+ghost use Rattle.pytree_dump.specs.Inner.Branches.{BranchShows, DescribesBranch};
 ghost use Rattle.pytree_dump.specs.Inner.Definitions.{function_def_fields, try_fields};
-ghost use Rattle.pytree_dump.specs.Inner.TypeParams.{type_params_before};
 
-use crate::fields::show_field;
-use crate::handlers::show_caught;
-use crate::statements::show_block;
+use crate::branches::{BranchNode, BranchPart, Branches, LEFT_OUT};
+use crate::nodes::AnyPart;
 use pytree_dump_text::{
-    Field, Part, Style, Told, after_left_out, boxed_part, is_flat, is_short_test, is_short_with,
-    open,
+    Field, Part, Style, boxed_part, is_flat, is_short_case, is_short_handler, is_short_match,
+    is_short_test, is_short_with, name_part, option_part,
 };
-use pytree_marked::{PlaceSource, end_node, is_told_on_line};
-use pytree_node::{ClassDef, Expr, FunctionDef, Item, Stmt, Try, TypeParam, Version};
-use std::alloc::AllocError;
+use pytree_node::{Case, ClassDef, Expr, FunctionDef, Handler, Item, Stmt, Try, Version};
 
-/// Appends a `while` or an `if`.
-#[cycle(blocks)]
-#[tactic(auto, using(crate::proofs::TextLemmas::left, crate::proofs::TextLemmas::may_close))]
-pub(crate) fn show_test<P: PlaceSource>(
-    out: &mut String,
-    indentation: &mut String,
+/// The node of a `while` or an `if`.
+pub(crate) fn test_node<'a>(
     style: Style,
     class: &'static str,
-    test: &Expr,
-    body: &[Stmt],
-    orelse: &[Stmt],
-    places: &mut P,
-) -> Result<(), AllocError>
-    ensures text { OnOk result (AppendsNode true style (string_bytes indentation.old)
-        (string_bytes out.old) (string_bytes out.new) (P.left places.old) (P.left places.new) class.now
+    test: &'a Expr,
+    body: &'a [Stmt],
+    orelse: &'a [Stmt],
+) -> BranchNode<'a>
+    ensures { DescribesBranch true style result class.now
         (a_field (codes "test") (shown (tree_of test.now))
         (a_field (codes "body") (shown_block style.profile body.now)
-        (a_field (codes "orelse") (shown_block style.profile orelse.now) no_field)))) }
-    ensures indentation { OnOk result (string_bytes indentation.new ≡ string_bytes indentation.old) }
+        (a_field (codes "orelse") (shown_block style.profile orelse.now) no_field))) }
 {
-    let told = Told {
-        one_line: is_told_on_line(style, is_short_test(style, test, body, orelse), places),
-        named: style.names,
-        first: true,
-    };
-    let outer = open(out, indentation, style, class)?;
-    let told = show_field(
-        out,
-        indentation,
-        style,
-        told,
-        Part::Expr(Field::Test, test),
-        places,
-    )?;
-    let told = show_block(out, indentation, style, told, Field::Body, body, places)?;
-    let told = show_block(out, indentation, style, told, Field::Orelse, orelse, places)?;
-    end_node(out, indentation, style, told, outer, places)?;
-    Ok(())
+    BranchNode {
+        class,
+        parts: [
+            BranchPart::Any(AnyPart::Part(Part::Expr(Field::Test, test))),
+            BranchPart::Branches(Field::Body, Branches::Stmts(body)),
+            BranchPart::Branches(Field::Orelse, Branches::Stmts(orelse)),
+            LEFT_OUT,
+            LEFT_OUT,
+            LEFT_OUT,
+            LEFT_OUT,
+        ],
+        len: 3,
+        is_short: is_short_test(style, test, body, orelse),
+        is_marked: true,
+    }
 }
 
-/// Appends a `for`, which shows four fields.
-#[cycle(blocks)]
-#[tactic(auto, using(crate::proofs::TextLemmas::left, crate::proofs::TextLemmas::may_close))]
-pub(crate) fn show_for<P: PlaceSource>(
-    out: &mut String,
-    indentation: &mut String,
+/// The node of a `for`, which shows four fields.
+pub(crate) fn for_node<'a>(
     style: Style,
     class: &'static str,
-    target: &Expr,
-    iter: &Expr,
-    body: &[Stmt],
-    orelse: &[Stmt],
-    places: &mut P,
-) -> Result<(), AllocError>
-    ensures text { OnOk result (AppendsNode true style (string_bytes indentation.old)
-        (string_bytes out.old) (string_bytes out.new) (P.left places.old) (P.left places.new) class.now
+    target: &'a Expr,
+    iter: &'a Expr,
+    body: &'a [Stmt],
+    orelse: &'a [Stmt],
+) -> BranchNode<'a>
+    ensures { DescribesBranch true style result class.now
         (a_field (codes "target") (shown (tree_of target.now))
         (a_field (codes "iter") (shown (tree_of iter.now))
         (a_field (codes "body") (shown_block style.profile body.now)
-        (a_field (codes "orelse") (shown_block style.profile orelse.now) (left_out no_field)))))) }
-    ensures indentation { OnOk result (string_bytes indentation.new ≡ string_bytes indentation.old) }
+        (a_field (codes "orelse") (shown_block style.profile orelse.now) (left_out no_field))))) }
 {
-    let told = Told {
-        one_line: is_flat(style),
-        named: style.names,
-        first: true,
-    };
-    let outer = open(out, indentation, style, class)?;
-    let told = show_field(
-        out,
-        indentation,
-        style,
-        told,
-        Part::Expr(Field::Target, target),
-        places,
-    )?;
-    let told = show_field(
-        out,
-        indentation,
-        style,
-        told,
-        Part::Expr(Field::Iter, iter),
-        places,
-    )?;
-    let told = show_block(out, indentation, style, told, Field::Body, body, places)?;
-    let told = show_block(out, indentation, style, told, Field::Orelse, orelse, places)?;
-    // The field `type_comment`.
-    let told = after_left_out(told);
-    end_node(out, indentation, style, told, outer, places)?;
-    Ok(())
+    BranchNode {
+        class,
+        parts: [
+            BranchPart::Any(AnyPart::Part(Part::Expr(Field::Target, target))),
+            BranchPart::Any(AnyPart::Part(Part::Expr(Field::Iter, iter))),
+            BranchPart::Branches(Field::Body, Branches::Stmts(body)),
+            BranchPart::Branches(Field::Orelse, Branches::Stmts(orelse)),
+            // The field `type_comment`.
+            LEFT_OUT,
+            LEFT_OUT,
+            LEFT_OUT,
+        ],
+        len: 5,
+        is_short: is_flat(style),
+        is_marked: true,
+    }
 }
 
-/// Appends a `with`.
-#[cycle(blocks)]
-#[tactic(auto, using(crate::proofs::TextLemmas::left, crate::proofs::TextLemmas::may_close))]
-pub(crate) fn show_with<P: PlaceSource>(
-    out: &mut String,
-    indentation: &mut String,
+/// The node of a `with`.
+pub(crate) fn with_node<'a>(
     style: Style,
     class: &'static str,
-    items: &[Item],
-    body: &[Stmt],
-    places: &mut P,
-) -> Result<(), AllocError>
-    ensures text { OnOk result (AppendsNode true style (string_bytes indentation.old)
-        (string_bytes out.old) (string_bytes out.new) (P.left places.old) (P.left places.new) class.now
+    items: &'a [Item],
+    body: &'a [Stmt],
+) -> BranchNode<'a>
+    ensures { DescribesBranch true style result class.now
         (a_field (codes "items") (listed (λ item. shown_item (item_of item)) items.now)
-        (a_field (codes "body") (shown_block style.profile body.now) (left_out no_field)))) }
-    ensures indentation { OnOk result (string_bytes indentation.new ≡ string_bytes indentation.old) }
+        (a_field (codes "body") (shown_block style.profile body.now) (left_out no_field))) }
 {
-    let told = Told {
-        one_line: is_told_on_line(style, is_short_with(style, items, body), places),
-        named: style.names,
-        first: true,
-    };
-    let outer = open(out, indentation, style, class)?;
-    let told = show_field(
-        out,
-        indentation,
-        style,
-        told,
-        Part::Items(Field::Items, items),
-        places,
-    )?;
-    let told = show_block(out, indentation, style, told, Field::Body, body, places)?;
-    // The field `type_comment`.
-    let told = after_left_out(told);
-    end_node(out, indentation, style, told, outer, places)?;
-    Ok(())
+    BranchNode {
+        class,
+        parts: [
+            BranchPart::Any(AnyPart::Part(Part::Items(Field::Items, items))),
+            BranchPart::Branches(Field::Body, Branches::Stmts(body)),
+            // The field `type_comment`.
+            LEFT_OUT,
+            LEFT_OUT,
+            LEFT_OUT,
+            LEFT_OUT,
+            LEFT_OUT,
+        ],
+        len: 3,
+        is_short: is_short_with(style, items, body),
+        is_marked: true,
+    }
 }
 
-/// Appends a `try`, which shows four fields.
-#[cycle(blocks)]
-#[tactic(auto, using(crate::proofs::TextLemmas::left, crate::proofs::TextLemmas::may_close))]
-pub(crate) fn show_try<P: PlaceSource>(
-    out: &mut String,
-    indentation: &mut String,
+/// The node of a `match`.
+pub(crate) fn match_node<'a>(style: Style, subject: &'a Expr, cases: &'a [Case]) -> BranchNode<'a>
+    ensures { DescribesBranch true style result (codes "Match(")
+        (a_field (codes "subject") (shown (tree_of subject.now))
+        (a_field (codes "cases") (shown_matched style.profile cases.now) no_field)) }
+{
+    BranchNode {
+        class: "Match(",
+        parts: [
+            BranchPart::Any(AnyPart::Part(Part::Expr(Field::Subject, subject))),
+            BranchPart::Branches(Field::Cases, Branches::Cases(cases)),
+            LEFT_OUT,
+            LEFT_OUT,
+            LEFT_OUT,
+            LEFT_OUT,
+            LEFT_OUT,
+        ],
+        len: 2,
+        is_short: is_short_match(style, subject, cases),
+        is_marked: true,
+    }
+}
+
+/// The node of a `try`, which shows four fields.
+pub(crate) fn try_node<'a>(style: Style, class: &'static str, parts: &'a Try) -> BranchNode<'a>
+    ensures { DescribesBranch true style result class.now
+        (try_fields style.profile (try_of parts.now)) }
+{
+    BranchNode {
+        class,
+        parts: [
+            BranchPart::Branches(Field::Body, Branches::Stmts(&parts.body)),
+            BranchPart::Branches(Field::Handlers, Branches::Handlers(&parts.handlers)),
+            BranchPart::Branches(Field::Orelse, Branches::Stmts(&parts.orelse)),
+            BranchPart::Branches(Field::Finalbody, Branches::Stmts(&parts.finalbody)),
+            LEFT_OUT,
+            LEFT_OUT,
+            LEFT_OUT,
+        ],
+        len: 4,
+        is_short: is_flat(style),
+        is_marked: true,
+    }
+}
+
+/// The node of a `def`, which shows four fields or more.
+pub(crate) fn function_node<'a>(
     style: Style,
     class: &'static str,
-    parts: &Try,
-    places: &mut P,
-) -> Result<(), AllocError>
-    ensures text { OnOk result (AppendsNode true style (string_bytes indentation.old)
-        (string_bytes out.old) (string_bytes out.new) (P.left places.old) (P.left places.new) class.now
-        (try_fields style.profile (try_of parts.now))) }
-    ensures indentation { OnOk result (string_bytes indentation.new ≡ string_bytes indentation.old) }
+    def: &'a FunctionDef,
+) -> BranchNode<'a>
+    ensures { DescribesBranch true style result class.now
+        (function_def_fields style.profile (function_def_of def.now)) }
 {
-    let told = Told {
-        one_line: is_flat(style),
-        named: style.names,
-        first: true,
-    };
-    let outer = open(out, indentation, style, class)?;
-    let told = show_block(
-        out,
-        indentation,
-        style,
-        told,
-        Field::Body,
-        &parts.body,
-        places,
-    )?;
-    let told = show_caught(out, indentation, style, told, &parts.handlers, places)?;
-    let told = show_block(
-        out,
-        indentation,
-        style,
-        told,
-        Field::Orelse,
-        &parts.orelse,
-        places,
-    )?;
-    let told = show_block(
-        out,
-        indentation,
-        style,
-        told,
-        Field::Finalbody,
-        &parts.finalbody,
-        places,
-    )?;
-    end_node(out, indentation, style, told, outer, places)?;
-    Ok(())
+    BranchNode {
+        class,
+        parts: [
+            BranchPart::Any(AnyPart::Part(Part::Name(Field::Name, &def.name))),
+            BranchPart::Any(AnyPart::Part(Part::Arguments(Field::Args, &def.args))),
+            BranchPart::Branches(Field::Body, Branches::Stmts(&def.body)),
+            BranchPart::Any(AnyPart::Part(Part::Exprs(Field::DecoratorList, &def.decorator_list))),
+            BranchPart::Any(AnyPart::Part(boxed_part(Field::Returns, &def.returns))),
+            // The field `type_comment`.
+            LEFT_OUT,
+            BranchPart::Any(AnyPart::Part(Part::TypeParams(Field::TypeParams, &def.type_params))),
+        ],
+        len: with_types(style, 7),
+        is_short: is_flat(style),
+        is_marked: true,
+    }
 }
 
-/// Appends a `def`, which shows four fields or more.
-#[cycle(blocks)]
-#[tactic(auto, using(crate::proofs::TextLemmas::left, crate::proofs::TextLemmas::may_close))]
-pub(crate) fn show_function<P: PlaceSource>(
-    out: &mut String,
-    indentation: &mut String,
-    style: Style,
-    class: &'static str,
-    def: &FunctionDef,
-    places: &mut P,
-) -> Result<(), AllocError>
-    ensures text { OnOk result (AppendsNode true style (string_bytes indentation.old)
-        (string_bytes out.old) (string_bytes out.new) (P.left places.old) (P.left places.new) class.now
-        (function_def_fields style.profile (function_def_of def.now))) }
-    ensures indentation { OnOk result (string_bytes indentation.new ≡ string_bytes indentation.old) }
+/// The node of a `class`, which shows five fields or more.
+pub(crate) fn class_node<'a>(style: Style, class: &'a ClassDef) -> BranchNode<'a>
+    ensures { BranchShows style result (shown_stmt style.profile (class_def_of class.now)) }
 {
-    let told = Told {
-        one_line: is_flat(style),
-        named: style.names,
-        first: true,
-    };
-    let outer = open(out, indentation, style, class)?;
-    let told = show_field(
-        out,
-        indentation,
-        style,
-        told,
-        Part::Name(Field::Name, &def.name),
-        places,
-    )?;
-    let told = show_field(
-        out,
-        indentation,
-        style,
-        told,
-        Part::Arguments(Field::Args, &def.args),
-        places,
-    )?;
-    let told = show_block(
-        out,
-        indentation,
-        style,
-        told,
-        Field::Body,
-        &def.body,
-        places,
-    )?;
-    let told = show_field(
-        out,
-        indentation,
-        style,
-        told,
-        Part::Exprs(Field::DecoratorList, &def.decorator_list),
-        places,
-    )?;
-    let told = show_field(
-        out,
-        indentation,
-        style,
-        told,
-        boxed_part(Field::Returns, &def.returns),
-        places,
-    )?;
-    // The field `type_comment`.
-    let told = show_field(out, indentation, style, told, Part::LeftOut, places)?;
-    let told = show_type_params(out, indentation, style, told, &def.type_params, places)?;
-    end_node(out, indentation, style, told, outer, places)?;
-    Ok(())
+    BranchNode {
+        class: "ClassDef(",
+        parts: [
+            BranchPart::Any(AnyPart::Part(Part::Name(Field::Name, &class.name))),
+            BranchPart::Any(AnyPart::Part(Part::Exprs(Field::Bases, &class.bases))),
+            BranchPart::Any(AnyPart::Part(Part::Keywords(Field::Keywords, &class.keywords))),
+            BranchPart::Branches(Field::Body, Branches::Stmts(&class.body)),
+            BranchPart::Any(AnyPart::Part(Part::Exprs(
+                Field::DecoratorList,
+                &class.decorator_list,
+            ))),
+            BranchPart::Any(AnyPart::Part(Part::TypeParams(Field::TypeParams, &class.type_params))),
+            LEFT_OUT,
+        ],
+        len: with_types(style, 6),
+        is_short: is_flat(style),
+        is_marked: true,
+    }
 }
 
-/// Appends a `class`, which shows five fields or more.
-#[cycle(blocks)]
-#[tactic(auto, using(crate::proofs::TextLemmas::left, crate::proofs::TextLemmas::may_close))]
-pub(crate) fn show_class<P: PlaceSource>(
-    out: &mut String,
-    indentation: &mut String,
-    style: Style,
-    class: &ClassDef,
-    places: &mut P,
-) -> Result<(), AllocError>
-    ensures text { OnOk result (Appends style (string_bytes indentation.old)
-        (string_bytes out.old) (string_bytes out.new) (P.left places.old) (P.left places.new)
-        (shown_stmt style.profile (class_def_of class.now))) }
-    ensures indentation { OnOk result (string_bytes indentation.new ≡ string_bytes indentation.old) }
-{
-    let told = Told {
-        one_line: is_flat(style),
-        named: style.names,
-        first: true,
-    };
-    let outer = open(out, indentation, style, "ClassDef(")?;
-    let told = show_field(
-        out,
-        indentation,
-        style,
-        told,
-        Part::Name(Field::Name, &class.name),
-        places,
-    )?;
-    let told = show_field(
-        out,
-        indentation,
-        style,
-        told,
-        Part::Exprs(Field::Bases, &class.bases),
-        places,
-    )?;
-    let told = show_field(
-        out,
-        indentation,
-        style,
-        told,
-        Part::Keywords(Field::Keywords, &class.keywords),
-        places,
-    )?;
-    let told = show_block(
-        out,
-        indentation,
-        style,
-        told,
-        Field::Body,
-        &class.body,
-        places,
-    )?;
-    let told = show_field(
-        out,
-        indentation,
-        style,
-        told,
-        Part::Exprs(Field::DecoratorList, &class.decorator_list),
-        places,
-    )?;
-    let told = show_type_params(out, indentation, style, told, &class.type_params, places)?;
-    end_node(out, indentation, style, told, outer, places)?;
-    Ok(())
-}
-
-/// Appends the parameters of a type as a field, where its Python has that field, and tells how what
-/// is after it is told.
-fn show_type_params<P: PlaceSource>(
-    out: &mut String,
-    indentation: &mut String,
-    style: Style,
-    told: Told,
-    type_params: &[TypeParam],
-    places: &mut P,
-) -> Result<Told, AllocError>
-    ensures text { IfOk result (λ next. AppendsField style (string_bytes indentation.old)
-        (string_bytes out.old) (string_bytes out.new) (P.left places.old) (P.left places.new)
-        told next (type_params_before style.profile (map type_param_of type_params.now))) }
-    ensures indentation { OnOk result (string_bytes indentation.new ≡ string_bytes indentation.old) }
+/// How many fields a definition has, of which the parameters of a type are the last: one less where
+/// its Python hasn't that field.
+fn with_types(style: Style, all: usize) -> usize
+    requires { 1 ≤ all }
+    ensures within { result ≤ all }
+    ensures len { result ≡ (if has_types style.profile then all else all - 1) }
 {
     match style.profile.version {
-        Version::Py311 => Ok(told),
-        Version::Py312 => show_field(
-            out,
-            indentation,
-            style,
-            told,
-            Part::TypeParams(Field::TypeParams, type_params),
-            places,
-        ),
+        Version::Py311 => all - 1,
+        Version::Py312 => all,
+    }
+}
+
+/// The node of a handler.
+pub(crate) fn handler_node<'a>(style: Style, h: &'a Handler) -> BranchNode<'a>
+    ensures { BranchShows style result (shown_handler style.profile (handler_of h.now)) }
+{
+    let body: &'a [Stmt] = &h.body;
+    BranchNode {
+        class: "ExceptHandler(",
+        parts: [
+            BranchPart::Any(AnyPart::Part(option_part(Field::Type, &h.class))),
+            BranchPart::Any(AnyPart::Part(name_part(Field::Name, &h.name))),
+            BranchPart::Branches(Field::Body, Branches::Stmts(body)),
+            LEFT_OUT,
+            LEFT_OUT,
+            LEFT_OUT,
+            LEFT_OUT,
+        ],
+        len: 3,
+        is_short: is_short_handler(style, &h.class, body),
+        is_marked: true,
+    }
+}
+
+/// The node of a case, which has no place.
+pub(crate) fn case_node<'a>(style: Style, case: &'a Case) -> BranchNode<'a>
+    ensures { BranchShows style result (shown_case style.profile (case_of case.now)) }
+{
+    let body: &'a [Stmt] = &case.body;
+    BranchNode {
+        class: "match_case(",
+        parts: [
+            BranchPart::Any(AnyPart::Pattern(Field::Pattern, &case.pattern)),
+            BranchPart::Any(AnyPart::Part(option_part(Field::Guard, &case.guard))),
+            BranchPart::Branches(Field::Body, Branches::Stmts(body)),
+            LEFT_OUT,
+            LEFT_OUT,
+            LEFT_OUT,
+            LEFT_OUT,
+        ],
+        len: 3,
+        is_short: is_short_case(style, &case.pattern, &case.guard, body),
+        is_marked: false,
     }
 }

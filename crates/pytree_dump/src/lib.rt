@@ -6,13 +6,12 @@
 //! nodes by [`dump_placed`] and [`PlacedPieces`].
 #![tactic(auto)]
 
-mod cases;
+mod blocks;
+mod branches;
 mod compounds;
 mod contents;
 mod elements;
 mod expressions;
-mod fields;
-mod handlers;
 mod joined;
 mod leaves;
 mod lists;

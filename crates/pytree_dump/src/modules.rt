@@ -7,8 +7,10 @@ ghost use Rattle.pytree_dump_text.specs.Shows.{shown_module};
 ghost use Rattle.pytree_node.specs.TreeOf.{module_of};
 ghost use Rattle.pytree_marked.specs.MarkedNodes.{marked, with_places};
 
-use crate::fields::show_field;
-use crate::statements::show_block;
+use crate::blocks::show_branch_field;
+use crate::branches::{BranchPart, Branches};
+use crate::nodes::AnyPart;
+use crate::showing::show_any_field;
 use pytree_dump_text::{Field, Part, Style, Told, close, is_short_module, open};
 use pytree_marked::{NoPlaces, PlaceSource};
 use pytree_node::{Module, Stmt};
@@ -52,21 +54,20 @@ pub fn dump_placed<P: PlaceSource>(
         first: true,
     };
     let outer = open(&mut out, &mut indentation, style, "Module(")?;
-    let told = show_block(
+    let told = show_branch_field(
         &mut out,
         &mut indentation,
         style,
         told,
-        Field::Body,
-        body,
+        BranchPart::Branches(Field::Body, Branches::Stmts(body)),
         places,
     )?;
-    show_field(
+    show_any_field(
         &mut out,
         &mut indentation,
         style,
         told,
-        Part::Names(Field::TypeIgnores, &[]),
+        AnyPart::Part(Part::Names(Field::TypeIgnores, &[])),
         places,
     )?;
     close(&mut out, &mut indentation, style, outer, ")")?;

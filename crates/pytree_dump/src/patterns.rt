@@ -1,24 +1,19 @@
 //! The nodes of patterns.
 
-ghost use Rattle.std.specs.Prelude.{◌≡◌, IfOk, OnOk, codes, true};
-ghost use Rattle.std.specs.String.{string_bytes};
+ghost use Rattle.std.specs.Prelude.{◌≡◌, codes, true};
 ghost use Rattle.pytree_dump_text.specs.Blocks.{listed, shown_pattern_row};
 ghost use Rattle.pytree_dump_text.specs.Shows.{Fields, a_field, name_field, no_field, shown, pattern_field};
 ghost use Rattle.pytree_dump_text.specs.Shows.{shown_name, shown_pattern};
 ghost use Rattle.pytree_dump_text.specs.Slots.{with_slot};
 ghost use Rattle.pytree_node.specs.TreeOf.{boxed_pattern_of, pattern_of, tree_of};
 ghost use Rattle.pytree_node.specs.Trees.{optional_pattern};
-ghost use Rattle.pytree_marked.specs.Appends.{AppendsField};
 ghost use Rattle.pytree_dump.specs.Inner.Nodes.{Describes, DescribesShown, any_slot};
 
 use crate::nodes::{AnyPart, Node};
-use crate::showing::show_any_field;
 use pytree_dump_text::{
-    Field, Part, Style, Told, is_flat, is_short_as, is_short_mapping, is_short_patterns, name_part,
+    Field, Part, Style, is_flat, is_short_as, is_short_mapping, is_short_patterns, name_part,
 };
-use pytree_marked::PlaceSource;
 use pytree_node::{Expr, Identifier, Pattern};
-use std::alloc::AllocError;
 
 /// The node of a pattern.
 pub(crate) fn pattern_node<'a>(style: Style, p: &'a Pattern) -> Node<'a>
@@ -155,28 +150,4 @@ fn as_node<'a>(
         is_short: is_short_as(style, pattern),
         is_marked: true,
     }
-}
-
-/// Appends a pattern as a field, and tells how the fields after it are told.
-pub(crate) fn show_pattern_field<P: PlaceSource>(
-    out: &mut String,
-    indentation: &mut String,
-    style: Style,
-    told: Told,
-    p: &Pattern,
-    places: &mut P,
-) -> Result<Told, AllocError>
-    ensures text { IfOk result (λ next. AppendsField style (string_bytes indentation.old)
-        (string_bytes out.old) (string_bytes out.new) (P.left places.old) (P.left places.new)
-        told next (λ rest. a_field (codes "pattern") (shown_pattern (pattern_of p.now)) rest)) }
-    ensures indentation { OnOk result (string_bytes indentation.new ≡ string_bytes indentation.old) }
-{
-    show_any_field(
-        out,
-        indentation,
-        style,
-        told,
-        AnyPart::Pattern(Field::Pattern, p),
-        places,
-    )
 }

@@ -9,8 +9,9 @@ ghost use Rattle.pytree_dump_text.specs.Shows.{shown_module};
 ghost use Rattle.pytree_node.specs.TreeOf.{module_of};
 ghost use Rattle.pytree_marked.specs.MarkedNodes.{with_places};
 
-use crate::fields::show_field;
-use crate::statements::show_stmt;
+use crate::blocks::show_stmt;
+use crate::nodes::AnyPart;
+use crate::showing::show_any_field;
 use pytree_dump_text::{
     Field, Part, Style, Told, is_flat, is_short_module, open, push_before, push_lead,
 };
@@ -96,12 +97,12 @@ impl<'a, P: PlaceSource> PlacedPieces<'a, P> {
             named,
             first: false,
         };
-        show_field(
+        show_any_field(
             &mut end,
             &mut indentation,
             style,
             told,
-            Part::Names(Field::TypeIgnores, &[]),
+            AnyPart::Part(Part::Names(Field::TypeIgnores, &[])),
             &mut NoPlaces,
         )?;
         end.push_str(")")?;

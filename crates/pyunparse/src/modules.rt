@@ -16,6 +16,9 @@ use std::alloc::{AllocError, Global};
 /// Source text for a module: a statement a line, four blanks a level, and as few brackets as each
 /// place allows.
 ///
+/// An f-string is one token there: a tuple, a `yield`, a conditional or a generator that is the
+/// whole of a field has brackets of its own, which it could do without.
+///
 /// Each line ends in a line feed; an empty module has the empty text. The only error is of memory.
 #[tactic(auto, using(pyunparse_text::proofs::Callers::Law::writing_is_shortest))]
 pub fn unparse(alloc: Global, module: &Module) -> Result<String, AllocError>

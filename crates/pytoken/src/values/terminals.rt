@@ -141,10 +141,8 @@ fn operator_terminal<'a>(text: &'a str) -> Terminal<'a>
     }
 }
 
-/// The terminal that a token of this type and text is in an extent of the language, if it is a single
-/// one: an f-string is told as a fault. No memory is
-/// taken but for a name with characters past ASCII and, in the whole language, for a whole number
-/// from 2^128 on, and that only to find its fault.
+/// The terminal that a token of this type and text is in an extent of the language, if it is a
+/// single one: an f-string is told as a fault.
 ///
 /// # Errors
 ///

@@ -16,7 +16,7 @@ use pytree_node::Extent;
 use std::alloc::{AllocError, Global};
 
 /// Appends the terminals that a token of this type and text is in an extent of the language: one, but
-/// for an f-string. Memory is taken for these alone, and as [`terminal_of`] takes it.
+/// for an f-string.
 ///
 /// # Errors
 ///

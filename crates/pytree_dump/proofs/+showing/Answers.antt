@@ -6,7 +6,7 @@ use Rattle.pytree_dump_text.specs.Slots.{slot_shown}
 use Rattle.pytree_dump.specs.Inner.Weights.{weights, slot_weight}
 use Rattle.pytree_marked.specs.Appends.{AppendsNode, coming_with}
 use Rattle.pytree_marked.specs.MarkedNodes.{closed, fields_with}
-use Rattle.pytree_dump.specs.Inner.Nodes.{ContentOf, any_slot, element_shown, elements_shown, fields_of, node_fields, option_shown}
+use Rattle.pytree_dump.specs.Inner.Nodes.{ContentOf, any_slot, element_shown, elements_shown, fields_of, node_fields, option_shown, sketch}
 use Rattle.pytree_dump.proofs.ArgumentsLemmas.{arguments_weight}
 use Rattle.pytree_dump.proofs.PlaceLemmas.{absent_appended}
 use Rattle.pytree_dump.proofs.NodeLemmas.{bare_ended, field_left, field_passed, laid_shown, list_ended, marked_ended, next_appended}
@@ -361,7 +361,7 @@ pub showing::show_element-returns-in_default : goal.showing::show_element-return
 showing::show_element-returns-in_default g t c =
     record {
       text = shown_on_ok c.args.style (string_bytes c.args.indentation.now) (string_bytes c.args.out.now) (string_bytes c.show_node.new.out)
-          (g.P.PlaceSource.left c.args.places.now) (g.P.PlaceSource.left c.show_node.new.places) c.node.result
+          (g.P.PlaceSource.left c.args.places.now) (g.P.PlaceSource.left c.show_node.new.places) (sketch c.node.result)
           (element_shown c.args.element)
           c.show_node.result c.node.ensures c.show_node.ensures.text;
       indentation = c.show_node.ensures.indentation;
@@ -369,13 +369,15 @@ showing::show_element-returns-in_default g t c =
 
 pub showing::show_element-show_node-requires : goal.showing::show_element-show_node-requires
 showing::show_element-show_node-requires g t c =
-    let w = node_weight c.args.style c.node.result (element_shown c.args.element) c.node.ensures in
-    (λ κs l. (omega (arith, w), (l, laid_shown c.args.style c.node.result (element_shown c.args.element) c.node.ensures)))
+    let w = node_weight c.args.style (sketch c.node.result) (element_shown c.args.element) c.node.ensures in
+    (λ κs l. (omega (arith, w), (l, laid_shown c.args.style (sketch c.node.result) (element_shown c.args.element) c.node.ensures)))
 
 pub showing::show_expr-show_node-requires : goal.showing::show_expr-show_node-requires
 showing::show_expr-show_node-requires g t c =
-    let w = node_weight c.args.style c.expr_node.result (shown (tree_of c.args.e.now)) c.expr_node.ensures in
-    (λ κs l. (omega (arith, w), (l, laid_shown c.args.style c.expr_node.result (shown (tree_of c.args.e.now)) c.expr_node.ensures)))
+    let k = sketch c.expr_node.result in
+    let x = shown (tree_of c.args.e.now) in
+    let w = node_weight c.args.style k x c.expr_node.ensures in
+    (λ κs l. (omega (arith, w), (l, laid_shown c.args.style k x c.expr_node.ensures)))
 
 pub showing::show_elements-loop-element-smaller : goal.showing::show_elements-loop-element-smaller
 showing::show_elements-loop-element-smaller g t c =
@@ -400,7 +402,7 @@ showing::show_elements-returns-clause-indentation g t c =
 pub showing::show_node-show_any_field-requires : goal.showing::show_node-show_any_field-requires
 showing::show_node-show_any_field-requires g t c =
     let h : slot_weight (any_slot c.part-item.result) ≤ field_weights (node_fields c.args.node.now) =
-    part_weight (take c.args.node.now.len c.args.node.now.parts) c.loop-part.part-index c.part-item.result
+    part_weight any_slot (take c.args.node.now.len c.args.node.now.parts) c.loop-part.part-index c.part-item.result
     c.loop-part-test.true c.part-item.is in
     (λ κs l. (omega (arith, h), l))
 
@@ -414,7 +416,8 @@ showing::show_node-returns-then-node-clause-text g t c =
     on_both c.end_node.result
     (λ text left. subst (λ b. AppendsNode b s f (string_bytes c.args.out.now) (string_bytes c.end_node.new.out) ps
     (g.P.PlaceSource.left c.end_node.new.places) n.class.now (node_fields n)) (sym m)
-    (marked_ended s f n.class.now (take n.len n.parts) (take n.len n.parts) (string_bytes c.args.out.now) (string_bytes c.loop-part.out) ps
+    (marked_ended any_slot s f n.class.now (take n.len n.parts) (take n.len n.parts) (string_bytes c.args.out.now)
+    (string_bytes c.loop-part.out) ps
     (g.P.PlaceSource.left c.loop-part.places) c.loop-part.told c.loop-part-test.false refl c.in_ok-outer.ensures.indentation
     (subst (λ b. c.is_told_on_line.result ≡ (is_flat s.indent || is_short (closed b (fields_with ps (node_fields n))).shown)) m
     (c.requires.line ps c.is_told_on_line.result c.is_told_on_line.ensures)) c.in_ok-outer.ensures.text
@@ -435,7 +438,8 @@ showing::show_node-returns-else-node-clause-text g t c =
     on_ok_weaker c.close.result
     (λ text. subst (λ b. AppendsNode b s f (string_bytes c.args.out.now) (string_bytes c.close.new.out) ps
     (g.P.PlaceSource.left c.loop-part.places) n.class.now (node_fields n)) (sym m)
-    (bare_ended s f n.class.now (take n.len n.parts) (take n.len n.parts) (string_bytes c.args.out.now) (string_bytes c.loop-part.out) ps
+    (bare_ended any_slot s f n.class.now (take n.len n.parts) (take n.len n.parts) (string_bytes c.args.out.now)
+    (string_bytes c.loop-part.out) ps
     c.loop-part.told c.loop-part-test.false refl c.in_ok-outer.ensures.indentation
     (subst (λ b. c.is_told_on_line.result ≡ (is_flat s.indent || is_short (closed b (fields_with ps (node_fields n))).shown)) m
     (c.requires.line ps c.is_told_on_line.result c.is_told_on_line.ensures)) c.in_ok-outer.ensures.text
@@ -462,10 +466,10 @@ pub showing::show_node-loop-part-preserved : goal.showing::show_node-loop-part-p
 showing::show_node-loop-part-preserved g t c =
     let xs = take c.args.node.now.len c.args.node.now.parts in
     record {
-      text = field_passed c.args.node.now.is_marked xs c.args.style (string_bytes c.open.new.indentation)
+      text = field_passed any_slot c.args.node.now.is_marked xs c.args.style (string_bytes c.open.new.indentation)
           c.loop-part-test.true c.part-item.is
           c.loop-part.invariant.indentation c.loop-part.invariant.text c.in_ok-told.ensures.text;
-      left = field_left xs c.loop-part-test.true c.part-item.is c.loop-part.invariant.left c.in_ok-told.ensures.text;
+      left = field_left any_slot xs c.loop-part-test.true c.part-item.is c.loop-part.invariant.left c.in_ok-told.ensures.text;
       indentation = c.in_ok-told.ensures.indentation ∙ c.loop-part.invariant.indentation;
     }
 

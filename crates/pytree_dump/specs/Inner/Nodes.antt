@@ -33,9 +33,13 @@ any_slot (any_part.Part p) = slot_of p
 any_slot (any_part.Pattern name p) = field (field_name name) (shown_pattern (pattern_of p.now))
 any_slot (any_part.Patterns name ps) = field (field_name name) (shown_pattern_row ps.now)
 
+-- the fields of a list, each by its slot
+abbrev pub slotted : {A : Type 0} → (A → Slot) → List A → Fields
+slotted g [] = no_field
+slotted g (x ∷ xs) = with_slot (g x) (slotted g xs)
+
 abbrev pub fields_of : List AnyPart → Fields
-fields_of [] = no_field
-fields_of (p ∷ ps) = with_slot (any_slot p) (fields_of ps)
+fields_of ps = slotted any_slot ps
 
 -- the fields of a node: those of its parts that count
 abbrev pub node_fields : given.Node → Fields
@@ -75,22 +79,54 @@ abbrev pub Splits : given_elements.Elements → Option (Option Element × given_
 Splits r None = elements_shown r ≡ no_shown
 Splits r (Some x) = elements_shown r ≡ a_shown (option_shown x.0) (elements_shown x.1)
 
+-- what a description of a node says: for how many parts it has room, how many count, and what is said of the node
+pub record Sketch : Type 0 where
+  pub room : ℕ
+  pub len : ℕ
+  pub is_marked : Bool
+  pub class : List ℕ
+  pub fields : Fields
+  pub is_short : Bool
+
 -- A description of a node: whether it may have a place, its class and the bracket, and its fields. Where no place is left it says whether
--- it stands
--- on one line; else only a dump of one line has it on one.
-pub record Describes (m : Bool) (s : Style) (n : given.Node) (start : List ℕ) (fs : Fields) : Type 0 where
-  pub count : n.len ≤ 4
-  pub marked : n.is_marked ≡ m
-  pub class : n.class.now ≡ start
-  pub fields : node_fields n ≡ fs
-  pub line : (ps : List Attributes) (line : Bool) → line ≡ (if is_none_left ps then n.is_short else is_flat s.indent) →
+-- it stands on one line; else only a dump of one line has it on one.
+pub record Sketched (m : Bool) (s : Style) (k : Sketch) (start : List ℕ) (fs : Fields) : Type 0 where
+  pub count : k.len ≤ k.room
+  pub marked : k.is_marked ≡ m
+  pub class : k.class ≡ start
+  pub fields : k.fields ≡ fs
+  pub line : (ps : List Attributes) (line : Bool) → line ≡ (if is_none_left ps then k.is_short else is_flat s.indent) →
       line ≡ (is_flat s.indent || is_short (closed m (fields_with ps fs)).shown)
 
 -- a description of what is shown
+abbrev pub SketchedShown : Style → Sketch → Shown → Type 0
+SketchedShown s k (Scalar t) = ⊥
+SketchedShown s k (Row xs) = ⊥
+SketchedShown s k (Node name fs) = Sketched (is_marked name) s k (name ++ codes "(") fs
+
+-- what a node says of itself, its name apart
+abbrev pub LaidSketch : Style → Sketch → Type 0
+LaidSketch s k = Sketched k.is_marked s k k.class k.fields
+
+-- the same of a node of an expression
+abbrev pub sketch : given.Node → Sketch
+sketch n = record {
+  room = 4;
+  len = n.len;
+  is_marked = n.is_marked;
+  class = n.class.now;
+  fields = node_fields n;
+  is_short = n.is_short;
+}
+
+abbrev pub Describes : Bool → Style → given.Node → List ℕ → Fields → Type 0
+Describes m s n start fs = Sketched m s (sketch n) start fs
+
 abbrev pub DescribesShown : Style → given.Node → Shown → Type 0
-DescribesShown s n (Scalar t) = ⊥
-DescribesShown s n (Row xs) = ⊥
-DescribesShown s n (Node name fs) = Describes (is_marked name) s n (name ++ codes "(") fs
+DescribesShown s n x = SketchedShown s (sketch n) x
+
+abbrev pub Laid : Style → given.Node → Type 0
+Laid s n = LaidSketch s (sketch n)
 
 -- what is shown by the content of a field
 abbrev pub ContentOf : Content → Shown → Type 0
@@ -107,7 +143,3 @@ ContentOf (content.Word t) y = ((s : Style) (f : List ℕ) → text s f y ≡ t.
 ContentOf (content.Name id) y = shown_name id.now ≡ y
 ContentOf (content.Constant c) y = Scalar (value_text (constant_of c.now)) ≡ y
 ContentOf (content.Number n) y = Scalar (decimal n) ≡ y
-
--- what a node says of itself, its name apart
-abbrev pub Laid : Style → given.Node → Type 0
-Laid s n = Describes n.is_marked s n n.class.now (node_fields n)

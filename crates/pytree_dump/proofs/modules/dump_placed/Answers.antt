@@ -16,7 +16,7 @@ returns-clause-text g c =
     c.in_ok-indentation.ensures.ok
     (plain_ended s _ (codes "Module(") F _ c.in_ok-outer.ensures.indentation
     (module_line _ _ _ s.profile body c.is_short_module.ensures) c.in_ok-outer.ensures.text
-    (then_field c.in_ok-told.ensures.text c.in_ok-told.ensures.indentation c.in_ok-show_field.ensures.text) c.in_ok-close.ensures.text)
+    (then_field c.in_ok-told.ensures.text c.in_ok-told.ensures.indentation c.in_ok-show_any_field.ensures.text) c.in_ok-close.ensures.text)
 
 pub returns-clause-left : goal.returns-clause-left
 returns-clause-left g c =
@@ -27,5 +27,5 @@ returns-clause-left g c =
     module_left s _ _ _ _ _ body c.args.tree.now.body.items c.deref-body.ensures.value
     (plain_ended s _ (codes "Module(") F _ c.in_ok-outer.ensures.indentation
     (module_line _ _ _ s.profile body c.is_short_module.ensures) c.in_ok-outer.ensures.text
-    (then_field c.in_ok-told.ensures.text c.in_ok-told.ensures.indentation c.in_ok-show_field.ensures.text) c.in_ok-close.ensures.text)
+    (then_field c.in_ok-told.ensures.text c.in_ok-told.ensures.indentation c.in_ok-show_any_field.ensures.text) c.in_ok-close.ensures.text)
     ∙ taken (shown_module s.profile (module_of c.args.tree.now)) _
