@@ -43,6 +43,8 @@ UNREAD = re.compile(r"is not in scope|has no field|is no name|operand is missing
 SAID = re.compile(r"fn [^:\s]+::(\S+): (.*)")
 STALE = re.compile(r"module .Rattle-(\w+)-.*Run the lower steps again")
 ENDED = re.compile(r"only=\d+ (?:proved|holes)=\d+|logic=(?:not-)?proved\b")
+# The status of a check that has refused a proof.
+REFUSED = 3
 CYCLE = re.compile(r"\s*#\[cycle\((\w+)\)\]")
 # The body of a function of which a check needs the contract alone, and the file of its proof.
 NO_BODY = "unreachable!()"
@@ -429,17 +431,22 @@ class Check:
                     to.write(str(value))
         return True
 
-    def run(self, words, folder):
-        """The status and the lines of the prover."""
+    def run(self, words, folder, is_enough=None):
+        """The status and the lines of the prover, which is ended as soon as its lines are enough; the status is that of refused proofs then."""
         if not self.begin(words, folder):
             return -signal.SIGKILL, []
-        lines = self.process.stdout.read().split("\n")
+        lines, is_ended = [], False
+        for line in self.process.stdout:
+            lines.append(line.rstrip("\n"))
+            if is_enough and not is_ended and (OPEN.match(line) or ERROR.match(line)) and is_enough(lines):
+                is_ended = True
+                os.killpg(self.process.pid, signal.SIGKILL)
         _, status, used = os.wait4(self.process.pid, 0)
         with self.lock:
             self.process.returncode = os.waitstatus_to_exitcode(status)
         self.process.stdout.close()
         self.seconds += used.ru_utime + used.ru_stime
-        return self.process.returncode, [line for line in lines if line]
+        return REFUSED if is_ended else self.process.returncode, [line for line in lines if line]
 
 
 def without_misfit(functions, lines, crate):
@@ -511,11 +518,19 @@ def check_batch(workspace, batch, check, kept):
             only = [word for name in functions for word in ("--only", name)]
             over = ["--incremental", kept] if kept else []
             holes = [] if batch.is_whole else ["--allow-holes"]
-            status, lines = check.run([*workspace.words(batch.crate), *over, *holes, *only], room)
+            # What the other functions are is of no interest: once each edit is refused, the check says nothing more.
+            is_enough = None if batch.is_whole else lambda lines: are_refused(batch, Checked(REFUSED, lines, texts), folder)
+            status, lines = check.run([*workspace.words(batch.crate), *over, *holes, *only], room, is_enough)
             others = without_misfit(functions, lines, batch.crate) if status == 2 else None
             if others is None:
                 return Checked(status, lines, texts)
             functions = others
+
+
+def are_refused(batch, checked, folder):
+    """Whether what a check has said by now refuses each edit of its batch by a goal of its own."""
+    answer = Answer(batch, checked, folder)
+    return not answer.spoilt() and all(answer.goals(change)[0] for change in batch.changes)
 
 
 def short(line):
@@ -574,7 +589,7 @@ class Answer:
     def spoilt(self):
         """Where and why the batch says nothing, as its text doesn't compile or the prover can't read it; no place where none is told."""
         errors = list(filter(None, map(ERROR.match, self.checked.lines)))
-        if any(map(ENDED.match, self.checked.lines[-1:])) or self.checked.status == 3:
+        if any(map(ENDED.match, self.checked.lines[-1:])) or self.checked.status == REFUSED:
             errors = [it for it in errors if self.is_unread(it)]
         elif not errors:
             return [("", 0, (self.checked.lines or [f"the prover ended with status {self.checked.status}"])[-1])]

@@ -1,0 +1,6 @@
+//! The rows of the tests: what is shown, of what text, and what has to come out.
+#![tactic(auto)]
+
+mod rows;
+
+pub use rows::{bytes_of, compare, fields, number, parts, push, push_shown, push_told, rows, source_of};
