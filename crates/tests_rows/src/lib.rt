@@ -3,4 +3,6 @@
 
 mod rows;
 
-pub use rows::{bytes_of, compare, fields, number, parts, push, push_shown, push_told, rows, source_of};
+pub use rows::{
+    bytes_of, compare, fields, number, parts, push, push_shown, push_told, rows, source_of,
+};
