@@ -1,6 +1,7 @@
 //! Expressions and patterns at the levels of the grammar: what they are read as, the tokens that
 //! they are written in, and whether they are well formed.
 
+use crate::rows::{push, push_shown, source_of};
 use crate::words::{level_of, pattern_level_of, style_of};
 use pygrammar::{Level, PatternLevel};
 use pyparse::{ParseFault, Token, parse_expression, parse_pattern, tokens_of};
@@ -9,7 +10,6 @@ use pytree::{Expr, Extent, Pattern, dump_expr, well_formed_at, well_formed_patte
 use pyunparse::{Piece, expression_tokens, pattern_tokens};
 use std::alloc::Global;
 use std::process::Abort;
-use tests_rows::{push, push_shown, source_of};
 
 /// The rows.
 pub(crate) const ROWS: &str = "

@@ -5,7 +5,7 @@
 //! its documentation, and never from the libraries.
 //!
 //! There is one test, so that few functions are proved. A row says what is shown, of what, and what
-//! has to come out (`tests_rows`): the checker sees one text, whatever the rows are.
+//! has to come out (`rows.rt`): the checker sees one text, whatever the rows are.
 #![tactic(auto)]
 
 #[cfg(test)]
@@ -14,6 +14,8 @@ mod expressions;
 mod modules;
 #[cfg(test)]
 mod quoted;
+#[cfg(test)]
+mod rows;
 #[cfg(test)]
 mod shapes;
 #[cfg(test)]

@@ -1,6 +1,7 @@
 //! Modules: what they are dumped and written as, how high they are, whether two are the same, and
 //! in which versions of Python they are well formed.
 
+use crate::rows::{number, parts, push, push_shown, source_of};
 use crate::words::style_of;
 use pyparse::{parse, parse_placed};
 use pytree::{
@@ -11,7 +12,6 @@ use pytree_dump::{ListedPlaces, PlaceSource};
 use pyunparse::unparse;
 use std::alloc::Global;
 use std::process::Abort;
-use tests_rows::{number, parts, push, push_shown, source_of};
 
 /// The rows.
 pub(crate) const ROWS: &str = "

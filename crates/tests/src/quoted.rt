@@ -2,6 +2,7 @@
 //! a source is at fault.
 
 use crate::modules::module;
+use crate::rows::{push, push_shown, source_of};
 use examples::{
     INDENTED, assignment_text, count_names, described, dumped, first_comment, first_text,
     functions, kept, resumed, rewritten, spans_around, tree_of_bytes,
@@ -11,7 +12,6 @@ use pysource::Counted;
 use pytree_node::Profile;
 use std::alloc::Global;
 use std::process::Abort;
-use tests_rows::{push, push_shown, source_of};
 
 /// The rows.
 pub(crate) const ROWS: &str = "

@@ -1,6 +1,7 @@
 //! Trees that no source gives, and the sizes of nodes.
 
 use crate::expressions::{expression, extents};
+use crate::rows::push_shown;
 use crate::words::level_of;
 use pytree::{
     Alias, Arg, BoolOperator, Comprehension, Constant, Context, Conversion, Expr, Handler,
@@ -9,7 +10,6 @@ use pytree::{
 use std::alloc::Global;
 use std::mem;
 use std::process::Abort;
-use tests_rows::push_shown;
 
 /// The rows.
 pub(crate) const ROWS: &str = "

@@ -1,9 +1,9 @@
 //! Which function shows what of a row, and the test.
 
+use crate::rows::{compare, fields, rows};
 use crate::{expressions, modules, quoted, shapes, tokens};
 use std::alloc::Global;
 use std::process::Abort;
-use tests_rows::{compare, fields, rows};
 
 /// Appends what is shown of tokens and names; false where it is nothing of these.
 fn of_token(

@@ -1,6 +1,7 @@
 //! What tokens are to the grammar and stand for, and the tokens and logical lines of sources: the
 //! calls of `pytoken` and `pyparse_tokens`.
 
+use crate::rows::{parts, push, push_shown, source_of};
 use crate::words::{extent_of, kind_of, style_of};
 use pylex::Kind;
 use pyparse::{
@@ -13,7 +14,6 @@ use pysource::{push_repr_points, repr_bytes, repr_text};
 use pytree::{Constant, Expr, Extent, dump_expr, is_identifier, is_keyword, is_name};
 use std::alloc::Global;
 use std::process::Abort;
-use tests_rows::{parts, push, push_shown, source_of};
 
 /// The rows.
 pub(crate) const ROWS: &str = "

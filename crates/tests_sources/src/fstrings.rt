@@ -2,11 +2,11 @@
 //! `pyfstring_tokens`. Expected cuts were taken from a plain Python model that agrees with Python
 //! 3.11, and those of the built program stand in `conformance/tables/fstring_cuts.txt`.
 
+use crate::rows::{push, push_shown, push_told};
 use pyfstring::{Manner, pieces, single};
 use pyfstring_tokens::FieldTokens;
 use std::alloc::Global;
 use std::process::Abort;
-use tests_rows::{push, push_shown, push_told};
 
 /// The rows.
 pub(crate) const ROWS: &str = "

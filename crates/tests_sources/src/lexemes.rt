@@ -1,12 +1,12 @@
 //! Lexemes, string literals that run over several lines, and cursors: the calls of `pylex` on a
 //! text.
 
+use crate::rows::{push, push_shown, push_told};
 use pylex::{
     Cursor, begins_significant, cut, exact_of, is_open_string, open_literal, opens_string,
 };
 use std::alloc::Global;
 use std::process::Abort;
-use tests_rows::{push, push_shown, push_told};
 
 /// The rows.
 pub(crate) const ROWS: &str = "

@@ -11,6 +11,8 @@ mod listings;
 #[cfg(test)]
 mod numbers;
 #[cfg(test)]
+mod rows;
+#[cfg(test)]
 mod shown;
 #[cfg(test)]
 mod sources;

@@ -1,12 +1,12 @@
 //! The listers of a source that is held and of one that is read line by line, from the start and
 //! from a cursor: the calls of `pylex` on a source.
 
+use crate::rows::{bytes_of, number, parts, push, push_shown, push_told, source_of};
 use pylex::{Cursor, Entry, Kind, Lister, Step, StreamLister, line_text, push_line, text};
 use pysource::{ByteIn, Place, Source};
 use pysource_fakes::FakeReader;
 use std::alloc::Global;
 use std::process::Abort;
-use tests_rows::{bytes_of, number, parts, push, push_shown, push_told, source_of};
 
 /// The rows.
 pub(crate) const ROWS: &str = "

@@ -1,10 +1,10 @@
 //! Whole numbers of any size, and doubles: the calls of `pynumber`, and the numbers of trees.
 
+use crate::rows::{number, push, push_shown};
 use pynumber::{Double, Natural};
 use pytree_node::Integer;
 use std::alloc::Global;
 use std::process::Abort;
-use tests_rows::{number, push, push_shown};
 
 /// The rows.
 pub(crate) const ROWS: &str = "

@@ -1,9 +1,9 @@
 //! Which function shows what of a row, and the test.
 
+use crate::rows::{compare, fields, rows};
 use crate::{fstrings, lexemes, listings, numbers, sources};
 use std::alloc::Global;
 use std::process::Abort;
-use tests_rows::{compare, fields, rows};
 
 /// Appends what is shown of bytes, lexemes and listings; false where it is nothing of these.
 fn of_source(

@@ -1,5 +1,6 @@
 //! Bytes and lines, and what is shown of texts: the calls of `pysource`.
 
+use crate::rows::{bytes_of, number, parts, push, push_shown, push_told};
 use pysource::{
     ByteIn, ByteOut, Chunks, LineReader, decode_vec, encoding_of, is_plain_text, place_of,
     push_repr, push_repr_bytes, push_repr_points, read_all, repr_bytes, repr_text, write_all,
@@ -8,7 +9,6 @@ use pysource_fakes::{FakeReader, FakeWriter};
 use pytree_node::Points;
 use std::alloc::Global;
 use std::process::Abort;
-use tests_rows::{bytes_of, number, parts, push, push_shown, push_told};
 
 /// The rows.
 pub(crate) const ROWS: &str = "

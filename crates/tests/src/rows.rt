@@ -17,44 +17,44 @@ const ROW: &str = "\n? ";
 const FIELD: &str = " => ";
 
 /// The rows of a table.
-pub fn rows<'a>(rt: &impl Abort, table: &'a str) -> Split<'a, &'static str> {
+pub(crate) fn rows<'a>(rt: &impl Abort, table: &'a str) -> Split<'a, &'static str> {
     table.strip_prefix(ROW).expect(rt, "a row").split(ROW)
 }
 
 /// The two parts of a text, before and after the first of these.
-pub fn parts<'a>(rt: &impl Abort, text: &'a str, between: &str) -> (&'a str, &'a str) {
+pub(crate) fn parts<'a>(rt: &impl Abort, text: &'a str, between: &str) -> (&'a str, &'a str) {
     text.split_once(between).expect(rt, "two parts")
 }
 
 /// The three fields of a row.
-pub fn fields<'a>(rt: &impl Abort, row: &'a str) -> (&'a str, &'a str, &'a str) {
+pub(crate) fn fields<'a>(rt: &impl Abort, row: &'a str) -> (&'a str, &'a str, &'a str) {
     let (head, rest) = parts(rt, row, FIELD);
     let (text, due) = parts(rt, rest, FIELD);
     (head, text, due)
 }
 
 /// The number that a word is.
-pub fn number(rt: &impl Abort, word: &str) -> u32 {
+pub(crate) fn number(rt: &impl Abort, word: &str) -> u32 {
     word.parse().expect(rt, "a number")
 }
 
 /// Appends a text.
-pub fn push(rt: &impl Abort, out: &mut String, text: &str) {
+pub(crate) fn push(rt: &impl Abort, out: &mut String, text: &str) {
     out.push_str(text).expect(rt, "memory");
 }
 
 /// Appends how a value is shown, after a blank.
-pub fn push_shown<T: Debug>(rt: &impl Abort, out: &mut String, value: &T) {
+pub(crate) fn push_shown<T: Debug>(rt: &impl Abort, out: &mut String, value: &T) {
     write!(out, " {value:?}").expect(rt, "memory");
 }
 
 /// Appends how a fault is shown and what it tells, after a blank.
-pub fn push_told<T: Debug + Display>(rt: &impl Abort, out: &mut String, fault: &T) {
+pub(crate) fn push_told<T: Debug + Display>(rt: &impl Abort, out: &mut String, fault: &T) {
     write!(out, " {fault:?}: {fault}").expect(rt, "memory");
 }
 
 /// The bytes of a text, in which `¶` stands for the byte FF.
-pub fn bytes_of(rt: &impl Abort, alloc: Global, text: &str) -> Vec<u8> {
+pub(crate) fn bytes_of(rt: &impl Abort, alloc: Global, text: &str) -> Vec<u8> {
     let mut bytes = Vec::new(alloc);
     for part in text.split_inclusive('¶') {
         let front = part.strip_suffix('¶');
@@ -70,7 +70,7 @@ pub fn bytes_of(rt: &impl Abort, alloc: Global, text: &str) -> Vec<u8> {
 }
 
 /// The source that a short text is.
-pub fn source_of(rt: &impl Abort, alloc: Global, text: &str) -> Source {
+pub(crate) fn source_of(rt: &impl Abort, alloc: Global, text: &str) -> Source {
     let bytes = text.as_bytes();
     assert!(rt; bytes.len() < 1_000);
     decode(alloc, bytes).expect(rt, "a source")
@@ -78,7 +78,7 @@ pub fn source_of(rt: &impl Abort, alloc: Global, text: &str) -> Source {
 
 /// Appends what is wrong with a row, if something else is shown than has to come out; a blank in
 /// front doesn't count.
-pub fn compare(rt: &impl Abort, row: &str, shown: &str, due: &str, wrong: &mut String) {
+pub(crate) fn compare(rt: &impl Abort, row: &str, shown: &str, due: &str, wrong: &mut String) {
     let told = shown.trim_start_matches(' ');
     if told != due {
         write!(wrong, "{row:?}: {told:?}, not {due:?}\n").expect(rt, "memory");
