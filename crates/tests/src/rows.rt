@@ -75,12 +75,3 @@ pub(crate) fn source_of(rt: &impl Abort, alloc: Global, text: &str) -> Source {
     assert!(rt; bytes.len() < 1_000);
     decode(alloc, bytes).expect(rt, "a source")
 }
-
-/// Appends what is wrong with a row, if something else is shown than has to come out; a blank in
-/// front doesn't count.
-pub(crate) fn compare(rt: &impl Abort, row: &str, shown: &str, due: &str, wrong: &mut String) {
-    let told = shown.trim_start_matches(' ');
-    if told != due {
-        write!(wrong, "{row:?}: {told:?}, not {due:?}\n").expect(rt, "memory");
-    }
-}

@@ -6,7 +6,7 @@ use pysource::{
     push_repr, push_repr_bytes, push_repr_points, read_all, repr_bytes, repr_text, write_all,
 };
 use pysource_fakes::{FakeReader, FakeWriter};
-use pytree_node::Points;
+use pytree::Points;
 use std::alloc::Global;
 use std::process::Abort;
 

@@ -2,7 +2,7 @@
 
 use crate::rows::{number, push, push_shown};
 use pynumber::{Double, Natural};
-use pytree_node::Integer;
+use pytree::Integer;
 use std::alloc::Global;
 use std::process::Abort;
 

@@ -1,1 +1,0 @@
-../../tests/src/rows.rt
