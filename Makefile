@@ -8,7 +8,7 @@
 # make dist       packs the sources as they are committed
 PREFIX = /usr/local
 DESTDIR =
-VERSION = 1.1.0
+VERSION = 2.0.0
 
 # Both are given to the shell as variables, so that they may have blanks and quotes.
 export DESTDIR PREFIX

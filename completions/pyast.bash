@@ -2,17 +2,18 @@
 _pyast() {
   local word=${COMP_WORDS[COMP_CWORD]} before=${COMP_WORDS[COMP_CWORD - 1]} command=${COMP_WORDS[1]} words=
   if [ "$COMP_CWORD" -eq 1 ]; then
-    mapfile -t COMPREPLY < <(compgen -W 'tokens dump unparse help -h --help -V --version' -- "$word")
+    mapfile -t COMPREPLY < <(compgen -W 'tokens dump unparse check help -h --help -V --version' -- "$word")
     return
   fi
   case $before in
-    --count | --resume | --indent) return ;;
+    --count | --resume | --indent | --stdin-name) return ;;
   esac
   case $command in
-    tokens) words='-e --count --resume -h --help' ;;
-    dump) words='--indent --bare --attributes --py312 --whole -h --help' ;;
-    unparse) words='--py312 --whole -h --help' ;;
-    help) words='tokens dump unparse help' ;;
+    tokens) words='-e --count --resume --stdin-name -h --help' ;;
+    dump) words='--indent --bare --attributes --py312 --whole --show --stdin-name -h --help' ;;
+    unparse) words='--py312 --whole --show --stdin-name -h --help' ;;
+    check) words='--py312 --whole --show --stdin-name -h --help' ;;
+    help) words='tokens dump unparse check help' ;;
   esac
   case $word in
     -*) mapfile -t COMPREPLY < <(compgen -W "$words" -- "$word") ;;

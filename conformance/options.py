@@ -16,10 +16,10 @@ import sys
 from common import Count
 
 TOP = os.path.dirname(os.path.dirname(os.path.abspath(__file__)))
-COMMANDS = ("tokens", "dump", "unparse")
+COMMANDS = ("tokens", "dump", "unparse", "check")
 # What stands for the program without a command.
 ALONE = "pyast"
-OPTION = re.compile(r"(?<![\w-])(--[a-z][a-z0-9]*|-[a-zA-Z])(?![\w-])")
+OPTION = re.compile(r"(?<![\w-])(--[a-z][a-z0-9]*(?:-[a-z]+)*|-[a-zA-Z])(?![\w-])")
 
 
 def shown(program, words):
@@ -51,7 +51,8 @@ def of_page(text):
     """The same by docs/USE.md: the synopsis of each command, and the rows of the table for help and the version."""
     synopsis, table = text.split("```")[1], text.split("\n## ", 1)[0]
     for_help, for_version = (options_in(re.search(rf"^.*`{option}`.*$", table, re.MULTILINE)[0]) for option in ("--help", "--version"))
-    parts = {line.split()[1]: options_in(line) for line in synopsis.splitlines() if line.startswith("pyast ")}
+    source = options_in(re.search(r"^\| `SOURCE` \|.*$", table, re.MULTILINE)[0])
+    parts = {line.split()[1]: options_in(line) | (source if "SOURCE" in line else set()) for line in synopsis.splitlines() if line.startswith("pyast ")}
     return {ALONE: for_help | for_version, **{command: parts[command] | for_help for command in COMMANDS}}
 
 
@@ -67,7 +68,7 @@ def of_zsh(text):
     parts |= {command: re.search(rf"\n    {command}\)\n(.*?);;", text, re.DOTALL)[1] for command in COMMANDS}
     found = {}
     for command, part in parts.items():
-        found[command] = set(re.findall(r"'(--?[a-z0-9]+)\[", part)) | options_in(" ".join(re.findall(r"\{([^}]*)\}", part)).replace(",", " "))
+        found[command] = set(re.findall(r"'(--?[a-z0-9-]+)\[", part)) | options_in(" ".join(re.findall(r"\{([^}]*)\}", part)).replace(",", " "))
     return found
 
 
@@ -75,7 +76,7 @@ def of_fish(text):
     """The same by the completions for fish."""
     found = {name: set() for name in (ALONE, *COMMANDS)}
     for line in text.splitlines():
-        names = {f"-{name}" for name in re.findall(r" -s (\w)\b", line)} | {f"--{name}" for name in re.findall(r" -l (\w+)", line)}
+        names = {f"-{name}" for name in re.findall(r" -s (\w)\b", line)} | {f"--{name}" for name in re.findall(r" -l ([\w-]+)", line)}
         seen = re.search(r"__fish_seen_subcommand_from ([a-z ]+)'", line)
         everywhere = [ALONE] if "__fish_use_subcommand" in line else [ALONE, *COMMANDS]
         for command in seen[1].split() if seen else everywhere:

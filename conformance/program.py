@@ -41,6 +41,33 @@ LISTING = """\
 DUMP = "Module(body=[Assign(targets=[Name(id='x', ctx=Store())], value=Constant(value=1))], type_ignores=[])\n"
 # What the help of dump and of unparse has to name: what is refused, and the limits.
 LIMITS = ("\\N{..}", "2**128", "4,300 digits", "600 open brackets", "500 nested expressions or statements")
+# Words after `check` that give no command, and what is reported of them.
+BAD_CHECKS = {
+    "": "a word is missing", "--whole": "a word is missing", "--stdin-name": "a word is missing", "--stdin-name n": "a word is missing",
+    "--stdin-name n a": "a word is missing", "- -": "-", "a - b -": "-", "a --whole --whole b": "--whole", "--show a --show": "--show",
+    "a --indent 1": "--indent", "--json=1 a": "--json=1", "-xy a": "-xy", "--stdin-name a --stdin-name b -": "--stdin-name", "a --count b": "--count",
+}
+# Sources with a fault that `dump` reports, and the lines that `--show` adds: the row, and the caret below the place.
+SHOWN = {
+    b"x\ny = 1.5\n": "2:4: error: float literal|y = 1.5|    ^",
+    b"\tx(\xc3\xa9, $)\n": "1:6: error: unexpected character|\tx(\u00e9, $)|\t     ^",
+    b"if x:\n": "2:0: error: expected an indented block||^",
+    b"y = '\x1b\xf0\x9f\x98\x80\xe2\x80\xa8', 1.5\n": "1:11: error: float literal|y = '\\x1b\U0001f600\\u2028', 1.5|                   ^",
+    b"'\xf3\xa0\x80\x81' $\n": "1:4: error: unexpected character|'\\U000e0001' $|             ^",
+    b"x $\r\n": "1:2: error: unexpected character|x $|  ^",
+    b"x\ry\n": "1:1: error: carriage return without line feed|x\\x0dy| ^",
+    b"x\r": "1:1: error: carriage return without line feed|x\\x0d| ^",
+    b"\xef\xbb\xbfx $": "1:2: error: unexpected character|x $|  ^",
+    b"x\n'\xc3\xa9\xff'\n": "2:2: error: invalid UTF-8|'\u00e9|  ^",
+    b"#\r\n# coding: latin-1\n": "2:0: error: unsupported encoding|# coding: latin-1|^",
+    b"f(\n": "2:0: error: EOF in multi-line statement||^",
+    # All of 160 characters, and of more 160 at most, from 80 before the place on.
+    b"a" * 158 + b" $": f"1:159: error: unexpected character|{'a' * 158} $|{' ' * 159}^",
+    b"a" * 159 + b" $": f"1:160: error: unexpected character|{'a' * 79} $|{' ' * 80}^",
+    b"a" * 79 + b" $" + b"b" * 80: f"1:80: error: unexpected character|{'a' * 79} ${'b' * 79}|{' ' * 80}^",
+    b"a $" + b"b" * 300: f"1:2: error: unexpected character|a ${'b' * 157}|  ^",
+    b"\t" * 100 + b"a" * 100 + b" $": f"1:201: error: unexpected character|{'a' * 79} $|{' ' * 80}^",
+}
 
 
 class Checks(Count):
@@ -63,19 +90,25 @@ class Checks(Count):
 
 def check_words(checks):
     """Help, the version, and words that give no command."""
-    for words in (["help"], ["-h"], ["--help"], ["help", "dump"], ["tokens", "-h"], ["unparse", "--help"]):
+    for words in (["help"], ["-h"], ["--help"], ["help", "dump"], ["tokens", "-h"], ["unparse", "--help"], ["help", "check"]):
         outcome = run([checks.program, *words])
-        named = {"tokens", "dump", "unparse"} if len(words) == 1 else {"Usage: pyast", "FILE"}
+        named = {"tokens", "dump", "unparse", "check"} if len(words) == 1 else {"Usage: pyast", "FILE"}
         text = outcome.out.decode()
         checks.is_due(" ".join(words), (outcome.status, outcome.err, sorted(one for one in named if one not in text)), (0, b"", []))
-    for words in (["help", "dump"], ["dump", "-h"], ["help", "unparse"], ["unparse", "--help"]):
+    for words in (["help", "dump"], ["dump", "-h"], ["help", "unparse"], ["unparse", "--help"], ["help", "check"]):
         text = " ".join(run([checks.program, *words]).out.decode().split())
         checks.is_due(f"{' '.join(words)}: the limits", [one for one in LIMITS if one not in text], [])
     for words in (["--version"], ["-V"]):
-        checks.ends(words, (0, "pyast 1.1.0\n", ""))
+        checks.ends(words, (0, "pyast 2.0.0\n", ""))
     bad = ([], ["x.py"], ["frob"], ["dump", "-c", "x"], ["dump", "a", "b"], ["dump", "--indent", "17"], ["tokens", "--whole"], ["tokens", "--count", "1000000001"], ["tokens", "--version"])
     for words in bad:
         checks.ends(words, (2, "", "pyast: bad arguments\n"))
+    for command in ("tokens", "dump", "unparse"):
+        for words in (["--stdin-name", "a", "b"], ["--stdin-name"], ["--stdin-name", "a", "--stdin-name", "a"], ["--show", "--show"], ["--shows"]):
+            checks.ends([command, *words], (2, "", "pyast: bad arguments\n"))
+    # Of words of `check` the one is named that no others make good.
+    for words, word in BAD_CHECKS.items():
+        checks.ends(["check", *words.split()], (2, "", f"pyast: bad arguments: {word}\n"))
     checks.ends(["tokens", "--resume", "x"], (2, "", "pyast: malformed cursor\n"))
     checks.ends(["tokens", "--resume", "pytok1 7 8 2 0 1 0 0,8"], (2, "", "pyast: cursor of another source\n"), b"x\n")
 
@@ -108,6 +141,45 @@ def check_files(checks):
     checks.ends(["dump"], (1, "", "<stdin>:1:0: error: invalid syntax\n"), b"x y\n")
     checks.ends(["tokens"], (1, None, "<stdin>:3:2: error: unindent does not match any outer indentation level\n"), b"if a:\n    b\n  c\n")
     checks.ends(["dump"], (4, "", None), b"x\n" * 400_000, preexec_fn=lambda: resource.setrlimit(resource.RLIMIT_AS, (30 << 20, 30 << 20)))
+
+
+def check_rows(checks):
+    """The row of a fault, and the caret below its place, by each command that shows them; faults without a place have none."""
+    for source, lines in SHOWN.items():
+        told = "<stdin>:" + lines.replace("|", "\n") + "\n"
+        for words in (["dump", "--show"], ["dump", "--attributes", "--show"], ["dump", "--show", "--bare", "--indent", "1", "--py312"], ["unparse", "--show"], ["check", "--show", "-"]):
+            checks.ends(words, (1, "", told), source)
+            checks.ends([word for word in words if word != "--show"], (1, "", told.split("\n", 1)[0] + "\n"), source)
+    checks.ends(["dump", "--show", "--stdin-name", "n.py"], (1, "", "n.py:1:2: error: unexpected character\nx $\n  ^\n"), b"x $\n")
+    checks.ends(["dump", "--show", "none.py"], (3, "", "pyast: cannot open file\n"))
+    checks.ends(["dump", "--show"], (0, DUMP, ""), b"x = 1\n")
+
+
+def check_many(checks):
+    """`check` of several files: each is judged, those that can't be read are named, and the status is the greatest."""
+    with tempfile.TemporaryDirectory() as folder:
+        for name, text in (("a.py", "x = 1.5\n"), ("b.py", "y z\n"), ("good.py", "x = 1\n"), ("-", "y z\n"), ("it's odd\n.py", "$\n")):
+            with open(os.path.join(folder, name), "w", encoding="utf-8") as file:
+                file.write(text)
+        named = {
+            "a.py": (1, "a.py:1:4: error: float literal\n"), "b.py": (1, "b.py:1:0: error: invalid syntax\n"), "good.py": (0, ""),
+            "none.py": (3, "pyast: none.py: cannot open file\n"), ".": (3, "pyast: .: read failed\n"), "./-": (1, "./-:1:0: error: invalid syntax\n"),
+            "-": (1, "<stdin>:2:2: error: unexpected indent\n"), "it's odd\n.py": (1, "it's odd\n.py:1:0: error: unexpected character\n"),
+        }
+        for names in (*([one] for one in named), ["good.py", "good.py"], ["a.py", "good.py"], ["none.py", "a.py"], ["a.py", "none.py"], list(named), list(named)[::-1]):
+            due = max(named[one][0] for one in names), "", "".join(named[one][1] for one in names)
+            checks.ends(["check", *names], due, b"x\n  y\n", cwd=folder)
+        checks.ends(["check", "--whole", "a.py", "--stdin-name", "n.py", "-"], (1, "", "n.py:2:2: error: unexpected indent\n"), b"x\n  y\n", cwd=folder)
+        checks.ends(["check", "--py312", "-"], (0, "", ""), b"type x = y\n", cwd=folder)
+        checks.ends(["check", "-"], (1, "", "<stdin>:1:0: error: invalid syntax\n"), b"type x = y\n", cwd=folder)
+        checks.ends(["check", "--", "--whole", "a.py"], (3, "", "pyast: --whole: cannot open file\na.py:1:4: error: float literal\n"), cwd=folder)
+        # Room for one of the files and its tree, and not for two.
+        with open(os.path.join(folder, "long.py"), "wb") as file:
+            file.write(b"f(a, b=1)\n" * 100_000)
+        room = lambda: resource.setrlimit(resource.RLIMIT_AS, (96 << 20, 96 << 20))
+        checks.ends(["check", *["long.py"] * 8, "a.py"], (1, "", named["a.py"][1]), cwd=folder, preexec_fn=room)
+        small = lambda: resource.setrlimit(resource.RLIMIT_AS, (30 << 20, 30 << 20))
+        checks.ends(["check", "good.py", "long.py", "a.py"], (4, "", "pyast: out of memory\n"), cwd=folder, preexec_fn=small)
 
 
 # --- reading and writing ------------------------------------------------------------------------------------------------
@@ -452,12 +524,12 @@ def check_stack(checks):
 def check_stack_of(checks, sources, extent):
     """The stack suffices for each pair of an accepted source and one that is too deep by one, by each command with these words and each option."""
     stack = lambda: resource.setrlimit(resource.RLIMIT_STACK, (STACK, STACK))
-    ways = ([], ["--attributes"], ["--indent", "16"], ["--bare"], ["--py312"], ["--attributes", "--bare", "--indent", "16", "--py312"])
+    ways = ([], ["--show"], ["--attributes"], ["--indent", "16"], ["--bare"], ["--py312"], ["--attributes", "--bare", "--indent", "16", "--py312"])
     listings = ([], ["-e"], ["--count", "1000000"], ["--resume", "pytok1 1 0 1 0 0 0 0"])
     for name, (accepted, refused) in sources.items():
         runs = [(["dump", *way, *extent], accepted, 0) for way in ways]
-        runs += [(["unparse", *way, *extent], accepted, 0) for way in ([], ["--py312"])]
-        runs += [([*words, *extent], refused, 1) for words in (["dump"], ["dump", "--attributes"], ["unparse"])]
+        runs += [([*words, *way, *extent], accepted, 0) for words in (["unparse"], ["check", "-"]) for way in ([], ["--py312"], ["--show"])]
+        runs += [([*words, *way, *extent], refused, 1) for words in (["dump"], ["dump", "--attributes"], ["unparse"], ["check", "-"]) for way in ([], ["--show"])]
         runs += [(["tokens", *way], refused, 0) for way in listings]
         for words, source, status in runs:
             outcome = run([checks.program, *words], input=source.encode(), preexec_fn=stack)
@@ -471,7 +543,7 @@ def main():
     if not os.access(checks.program, os.X_OK):
         print(f"program.py: {checks.program} isn't there", file=sys.stderr)
         return 2
-    parts = (check_words, check_files, check_streams, check_open_pipes, check_terminal, check_given_back, check_large, check_large_places, check_large_whole, check_characters, check_stack)
+    parts = (check_words, check_files, check_rows, check_many, check_streams, check_open_pipes, check_terminal, check_given_back, check_large, check_large_places, check_large_whole, check_characters, check_stack)
     for part in parts:
         part(checks)
     return checks.end()

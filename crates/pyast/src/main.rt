@@ -1,7 +1,10 @@
-//! Lists, dumps and unparses Python source.
+//! Lists, dumps, unparses and checks Python source.
 #![tactic(auto)]
 
-use pyast_command::{Command, Fault, RunFaultCode, UsageFault, open_source, run, tell};
+use pyast_command::{
+    Check, Command, Fault, FaultCode, RunFaultCode, UsageFault, check_one, open_source, run, tell,
+    tell_bad_word, tell_file,
+};
 use pysource::{Counted, write_all};
 use std::io::ErrorKind;
 use std::process::ExitCode;
@@ -36,6 +39,43 @@ fn perform(rt: &HostRuntime, command: &Command) -> u8 {
     }
 }
 
+/// Checks the standard input, or a file of another name than `-`.
+fn check_file(rt: &HostRuntime, asked: &Check, name: &str) -> u8 {
+    let mut faults = Counted::new(rt.stderr());
+    if name == "-" {
+        let name = asked.stdin_name.as_deref().unwrap_or("<stdin>");
+        let mut reader = Counted::new(rt.stdin());
+        return check_one(rt.alloc(), asked, name, &mut reader, &mut faults);
+    }
+    match open_source(rt, name) {
+        Ok(file) => {
+            let mut reader = Counted::new(file);
+            check_one(rt.alloc(), asked, name, &mut reader, &mut faults)
+        }
+        Err(fault) => tell_file(rt.alloc(), name, fault, None, &mut faults).status(),
+    }
+}
+
+/// Checks each file, up to one for which there is no memory. The answer is the greatest status.
+fn check_files(rt: &HostRuntime, asked: &Check) -> u8 {
+    let no_memory = FaultCode::Run(RunFaultCode::Memory).status();
+    let mut greatest = 0;
+    for name in asked.files.as_slice() {
+        greatest = greatest.max(check_file(rt, asked, name.as_str()));
+        if greatest == no_memory {
+            break;
+        }
+    }
+    greatest
+}
+
+/// Tells bad words by one of them, or by what they lack.
+fn refuse_by(rt: &HostRuntime, word: &str) -> u8 {
+    let mut faults = Counted::new(rt.stderr());
+    tell_bad_word(word, &mut faults);
+    FaultCode::Run(RunFaultCode::BadArguments).status()
+}
+
 /// Tells why the words gave no command. Help or the version, where it was asked for, goes to the
 /// standard output.
 fn refuse(rt: &HostRuntime, fault: UsageFault) -> u8 {
@@ -47,6 +87,8 @@ fn refuse(rt: &HostRuntime, fault: UsageFault) -> u8 {
                 Err(_) => RunFaultCode::Write,
             }
         }
+        UsageFault::BadWord(word) => return refuse_by(rt, word.as_str()),
+        UsageFault::WordMissing => return refuse_by(rt, "a word is missing"),
         UsageFault::BadArguments => RunFaultCode::BadArguments,
         UsageFault::MalformedCursor => RunFaultCode::CursorText,
         UsageFault::Memory => RunFaultCode::Memory,
@@ -59,7 +101,10 @@ fn refuse(rt: &HostRuntime, fault: UsageFault) -> u8 {
 fn start(rt: &HostRuntime) -> Result<u8, UsageFault> {
     let words = words(rt)?;
     let command = Command::read(rt.alloc(), words.as_slice())?;
-    Ok(perform(rt, &command))
+    Ok(match &command {
+        Command::Check(asked) => check_files(rt, asked),
+        _ => perform(rt, &command),
+    })
 }
 
 fn main(rt: HostRuntime) -> ExitCode {

@@ -188,7 +188,7 @@ pub none_written : (making : Making) (profile : Profile) (output : List ℕ → 
     (x : Option (List ℕ)) (fault : Fault)
     → ReadsNone profile seen_old seen_new fault → PerformsWhole making (Writes profile output) seen_old seen_new x x
     source_limit (Some fault)
-none_written making profile output seen_old seen_new x (InSource code place) h = (h.0, h.1, of_none h.2, Appends-refl x)
+none_written making profile output seen_old seen_new x (InSource code place) h = (h.0, h.1.all, of_none h.1.refused, Appends-refl x)
 none_written whole profile output seen_old seen_new x (Plain Memory) h = (h, Appends-refl x)
 none_written in_pieces profile output seen_old seen_new x (Plain Memory) h = (h, inl (Appends-refl x))
 none_written making profile output seen_old seen_new x (Plain Read) h = (h, Appends-refl x)

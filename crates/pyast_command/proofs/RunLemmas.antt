@@ -1,18 +1,25 @@
 -- Laws of a run.
 --
--- Carries: list, write_listing, run.
+-- Carries: list, write_listing, perform, tell_end, run, check_one.
 use Rattle.std.proofs.Common.{Bool, ◌≡◌, ◌≢◌, ◌++◌, ℕ, List, [], Option, None, Some, refl, sym, ap, inl, inr}
-use Rattle.std.proofs.Common.{◌∙◌, append_assoc, append-nil}
+use Rattle.std.proofs.Common.{true, false, ◌∙◌, append_assoc, append-nil}
+use Rattle.std.specs.Prelude.{if◌then◌else◌}
 use Rattle.std.specs.Io.KnownBytes.{Appends}
-use Rattle.pysource.specs.Bytes.{Seen, TakesFront}
-use Rattle.pysource.proofs.Callers.Taken.{Appends-append, TakesFront-after}
+use Rattle.pysource.specs.Bytes.{Seen, Sent, TakesFront}
+use Rattle.pysource.proofs.Callers.Taken.{Appends-append, Appends-refl, TakesFront-after}
 use Rattle.pylex_listing.specs.declared.entries.ListingFault.{ListingFault}
-use Rattle.pyast_fault.specs.Faults.{listing_code, told_at, of_listing, IsToldAs}
+use Rattle.pysource.specs.Limits.{source_limit}
+use Rattle.pysource.specs.declared.places.Place.{Place}
+use Rattle.pytree_node.specs.declared.profiles.Profile.{Profile}
+use Rattle.pyast_fault.specs.Faults.{fault_line, listing_code, rows_of, told_at, of_listing, IsToldAs, Tells}
+use Rattle.pyast_words.specs.declared.command.Check.{Check as CheckAsked}
 use Rattle.pyast_words.specs.declared.command.Command.{Command}
-use Rattle.pyast_words.specs.declared.command.Command.TheVariants.{Tokens, Dump, Unparse}
+use Rattle.pyast_words.specs.declared.command.Command.TheVariants.{Tokens, Dump, Unparse, Check}
 use Rattle.pyast_command.specs.Dumps.{Dumps}
 use Rattle.pyast_command.specs.Listings.{output_of, fault_in}
 use Rattle.pyast_command.specs.Runs.{TakesAllBut, HoldsFor, WritesFor, Performs, Making, whole, in_pieces, PerformsWhole, Does}
+use Rattle.pyast_command.specs.Runs.{shows, shown_in, line_in, IsTold, Judges}
+use Rattle.pyast_command.specs.Inner.Reading.{Keeps, KeepsShown}
 use Rattle.pyast_command.specs.Unparses.{Unparses}
 use Rattle.pyast_fault.specs.declared.fault.RunFaultCode.{RunFaultCode}
 use Rattle.pyast_fault.specs.declared.fault.SourceFaultCode.{SourceFaultCode}
@@ -122,6 +129,11 @@ PerformsWhole-told in_pieces does seen_old seen_new x y limit (InSource code pla
   | inr e ↦ rw e (p.1.unfailed, inl p.3)
 ]
 
+pub Judges-told : (profile : Profile) (seen_old seen_new : Seen) (limit : ℕ) (fault other : Fault)
+    → IsToldAs fault other → Judges profile seen_old seen_new limit (Some fault) → Judges profile seen_old seen_new limit (Some other)
+Judges-told profile seen_old seen_new limit (Plain code) other is p = rw is p
+Judges-told profile seen_old seen_new limit (InSource code place) other is p = elim is [ inl e ↦ rw e p | inr e ↦ rw e p.1.all.unfailed ]
+
 pub Does-told : (command : Command) (seen_old seen_new : Seen) (x y : Option (List ℕ)) (limit : ℕ) (fault other : Fault)
     → IsToldAs fault other → Does command seen_old seen_new x y limit (Some fault) → Does command seen_old seen_new x y limit (Some other)
 Does-told (Tokens asked) seen_old seen_new x y limit fault other is p = Performs-told (output_of asked) (fault_in asked) seen_old seen_new x
@@ -131,6 +143,67 @@ Does-told (Dump asked) seen_old seen_new x y limit fault other is p =
     seen_new x y limit fault other is p
 Does-told (Unparse asked) seen_old seen_new x y limit fault other is p = PerformsWhole-told whole (Unparses asked.profile) seen_old seen_new
     x y limit fault other is p
+Does-told (Check asked) seen_old seen_new x y limit fault other is p =
+    (Judges-told asked.profile seen_old seen_new limit fault other is p.0, p.1)
+
+-- ---- The lines that are told.
+
+-- the bytes that are shown are those that were kept
+abbrev pub AreRows : Option Profile → List ℕ → Option (List ℕ) → Type 0
+AreRows None kept rows = rows ≡ None
+AreRows (Some profile) kept rows = rows ≡ Some kept
+
+pub rows_by : (show : Bool) (profile : Profile) (kept : List ℕ)
+    → AreRows (if show then Some profile else None) kept (if show then Some kept else None)
+rows_by true profile kept = refl
+rows_by false profile kept = refl
+
+pub rows_in : (command : Command) (show : Bool) (kept : List ℕ) → show ≡ shows command
+    → AreRows (shown_in command) kept (if show then Some kept else None)
+rows_in (Tokens asked) show kept is = rw is refl
+rows_in (Dump asked) show kept is = rw is (rows_by asked.show asked.style.profile kept)
+rows_in (Unparse asked) show kept is = rw is (rows_by asked.show asked.profile kept)
+rows_in (Check asked) show kept is = rw is (rows_by asked.show asked.profile kept)
+
+-- what is kept where rows are shown
+pub keeps_by : (show : Bool) (profile : Profile) (seen_old seen_new : Seen) (kept : List ℕ) (fault : Fault)
+    → (show ≡ true → Keeps profile seen_old seen_new kept fault)
+    → KeepsShown (if show then Some profile else None) seen_old seen_new kept fault
+keeps_by true profile seen_old seen_new kept fault keeps = keeps refl
+keeps_by false profile seen_old seen_new kept fault keeps = tt
+
+-- of a fault without a place the line alone is told
+plain_rows : (rows : Option (List ℕ)) (code : RunFaultCode) (line : List ℕ) → line ++ rows_of rows (Plain code) ≡ line
+plain_rows None code line = append-nil line
+plain_rows (Some bytes) code line = append-nil line
+
+source_rows : (shown : Option Profile) (line_of : Fault → List ℕ) (seen_old seen_new : Seen) (kept : List ℕ) (rows : Option (List ℕ))
+    (code : SourceFaultCode) (place : Place) → AreRows shown kept rows → KeepsShown shown seen_old seen_new kept (InSource code place)
+    → IsTold shown line_of seen_old seen_new source_limit (Some (InSource code place))
+    (line_of (InSource code place) ++ rows_of rows (InSource code place))
+source_rows None line_of seen_old seen_new kept rows code place are keeps = rw are (append-nil (line_of (InSource code place)))
+source_rows (Some profile) line_of seen_old seen_new kept rows code place are keeps = rw are (kept, keeps, refl)
+
+-- what is told of a fault, as itself or as another
+pub told_rows : (shown : Option Profile) (line_of : Fault → List ℕ) (seen_old seen_new : Seen) (kept : List ℕ) (rows : Option (List ℕ))
+    (fault told : Fault) → AreRows shown kept rows → KeepsShown shown seen_old seen_new kept fault → IsToldAs fault told
+    → IsTold shown line_of seen_old seen_new source_limit (Some told) (line_of told ++ rows_of rows told)
+told_rows shown line_of seen_old seen_new kept rows (Plain code) told are keeps is = rw is (plain_rows rows code (line_of (Plain code)))
+told_rows shown line_of seen_old seen_new kept rows (InSource code place) told are keeps is = elim is [
+  | inl e ↦ rw e (source_rows shown line_of seen_old seen_new kept rows code place are keeps)
+  | inr e ↦ rw e (plain_rows rows Memory (line_of (Plain Memory)))
+]
+
+-- nothing is told
+pub nothing_told : (x : Sent) → Tells x x []
+nothing_told x = record { front = ([], [], refl, Appends-refl x.taken); whole = λ unfailed. Appends-refl x.taken }
+
+-- only `check` names a file that can't be read
+pub line_other : (command : Command) → ((asked : CheckAsked) → command ≡ Check asked → ⊥) → line_in command ≡ fault_line
+line_other (Tokens asked) other = refl
+line_other (Dump asked) other = refl
+line_other (Unparse asked) other = refl
+line_other (Check asked) other = absurd (other asked refl)
 
 -- a fault without a place is told as itself, and only as that
 pub told-plain : (fault told : Fault) (code : RunFaultCode) → code ≢ Memory → IsToldAs fault told

@@ -1,17 +1,20 @@
 -- What a run of the program is, whatever its reader and its writers do.
-use Rattle.std.specs.Prelude.{◌≡◌, ◌≢◌, ◌⊎◌, ◌≤◌, ℕ, ◌+◌, ◌<◌, Bool, true, false, List, [], ◌++◌, length, Option, Some, None, IfSome}
+use Rattle.std.specs.Prelude.{◌≡◌, ◌≢◌, ◌⊎◌, ◌≤◌, ℕ, ◌+◌, ◌<◌, Bool, true, false, List, [], ◌++◌, length, Option, Some, None, IfSome, if◌then◌else◌}
 use Rattle.std.specs.Prelude.{Result, Ok, Err}
 use Rattle.std.specs.Io.KnownBytes.{Appends, Consumes, IsAtEnd}
 use Rattle.pysource.specs.Bytes.{Seen, Sent, TakesFront, GivesTooMany}
-use Rattle.pyast_fault.specs.Faults.{status_of, fault_line, Tells}
+use Rattle.pytree_node.specs.Trees.{Module}
+use Rattle.pytree_node.specs.declared.profiles.Profile.{Profile}
+use Rattle.pyast_fault.specs.Faults.{status_of, fault_line, file_line, rows_of, Tells}
 use Rattle.pyast_fault.specs.declared.fault.RunFaultCode.TheVariants.{Read, Write, Memory, CursorOfAnotherSource}
 use Rattle.pyast_fault.specs.declared.fault.Fault.{Fault}
 use Rattle.pyast_fault.specs.declared.fault.Fault.TheVariants.{InSource, Plain}
 use Rattle.pyast_words.specs.Words.{name_of}
 use Rattle.pyast_words.specs.declared.command.Command.{Command}
-use Rattle.pyast_words.specs.declared.command.Command.TheVariants.{Tokens, Dump, Unparse}
+use Rattle.pyast_words.specs.declared.command.Command.TheVariants.{Tokens, Dump, Unparse, Check}
 use Rattle.pyast_command.specs.Dumps.{Dumps}
 use Rattle.pyast_command.specs.Listings.{output_of, fault_in}
+use Rattle.pyast_command.specs.Modules.{IsModule, IsRefused}
 use Rattle.pyast_command.specs.Unparses.{Unparses}
 
 -- What a writer took, from old to new, where a run with this whole output and this fault of the source ended by a fault
@@ -114,23 +117,72 @@ PerformsWhole making does seen_old seen_new old new limit (Some (Plain code)) = 
   | _ ↦ ⊥
 ]
 
--- What a command does with what its reader gives: `tokens` reads it line by line, `dump` and `unparse` whole. The text of a dump is made in
--- pieces.
+-- the bytes of a reader were read to its end, and are refused as a source for this fault
+pub record RefusesRead (profile : Profile) (seen_old seen_new : Seen) (limit : ℕ) (input : List ℕ) (fault : Fault) : Type 0 where
+  pub all : ReadsAll seen_old seen_new limit input
+  pub refused : IsRefused profile input fault
+
+-- A source was judged, which is read whole: its bytes are a module; or they are refused for the fault that ended this, a read failed, or
+-- memory was wanting.
+abbrev pub Judges : Profile → Seen → Seen → ℕ → Option Fault → Type 0
+Judges profile seen_old seen_new limit None =
+    (input : List ℕ) × (m : Module) × ReadsAll seen_old seen_new limit input × IsModule profile input m
+Judges profile seen_old seen_new limit (Some (InSource code place)) =
+    (input : List ℕ) × RefusesRead profile seen_old seen_new limit input (InSource code place)
+Judges profile seen_old seen_new limit (Some (Plain code)) = elim code [
+  | Read ↦ ReadsNotAll seen_old seen_new limit
+  | Memory ↦ seen_new.failures ≡ seen_old.failures
+  | _ ↦ ⊥
+]
+
+-- What a command does with what its reader gives: `tokens` reads it line by line, the others whole. The text of a dump is made in pieces;
+-- `check` writes nothing.
 abbrev pub Does : Command → Seen → Seen → Option (List ℕ) → Option (List ℕ) → ℕ → Option Fault → Type 0
 Does (Tokens asked) = Performs (output_of asked) (fault_in asked)
 Does (Dump asked) = PerformsWhole in_pieces (Dumps asked.style asked.attributes)
 Does (Unparse asked) = PerformsWhole whole (Unparses asked.profile)
+Does (Check asked) = λ seen_old seen_new old new limit ended. Judges asked.profile seen_old seen_new limit ended × Appends old new []
 
--- the fault line of a run, empty where it ended well
-abbrev pub told_line : List ℕ → Option Fault → List ℕ
-told_line name None = []
-told_line name (Some fault) = fault_line name fault
+-- whether a command shows the row of a fault
+abbrev pub shows : Command → Bool
+shows (Tokens asked) = false
+shows (Dump asked) = asked.show
+shows (Unparse asked) = asked.show
+shows (Check asked) = asked.show
+
+-- the profile by which a command reads a source of which it shows the row of a fault
+abbrev pub shown_in : Command → Option Profile
+shown_in (Tokens asked) = None
+shown_in (Dump asked) = if asked.show then Some asked.style.profile else None
+shown_in (Unparse asked) = if asked.show then Some asked.profile else None
+shown_in (Check asked) = if asked.show then Some asked.profile else None
+
+-- the line of a fault: that of `check` names the file that can't be read
+abbrev pub line_in : Command → List ℕ → Fault → List ℕ
+line_in (Tokens asked) = fault_line
+line_in (Dump asked) = fault_line
+line_in (Unparse asked) = fault_line
+line_in (Check asked) = file_line
+
+-- after the line of a fault of the source its row, in the bytes that were read, where rows are shown
+abbrev pub AddsRow : Option Profile → Seen → Seen → ℕ → Fault → List ℕ → List ℕ → Type 0
+AddsRow None seen_old seen_new limit fault line lines = lines ≡ line
+AddsRow (Some profile) seen_old seen_new limit fault line lines =
+    (input : List ℕ) × RefusesRead profile seen_old seen_new limit input fault × (lines ≡ line ++ rows_of (Some input) fault)
+
+-- the lines that are told of what ended a run, none where it ended well
+abbrev pub IsTold : Option Profile → (Fault → List ℕ) → Seen → Seen → ℕ → Option Fault → List ℕ → Type 0
+IsTold shown line_of seen_old seen_new limit None lines = lines ≡ []
+IsTold shown line_of seen_old seen_new limit (Some (InSource code place)) lines =
+    AddsRow shown seen_old seen_new limit (InSource code place) (line_of (InSource code place)) lines
+IsTold shown line_of seen_old seen_new limit (Some (Plain code)) lines = lines ≡ line_of (Plain code)
 
 -- a run of a command that ended by this fault or by none: its status, what it wrote and told, and when a read or a write is blamed
 pub record IsRun (command : Command) (seen_old seen_new : Seen) (sent_old sent_new told_old told_new : Sent)
     (limit answer : ℕ) (ended : Option Fault) : Type 0 where
   pub status : answer ≡ status_of ended
   pub output : Does command seen_old seen_new sent_old.taken sent_new.taken limit ended
-  pub told : Tells told_old told_new (told_line (name_of command) ended)
+  pub told : (lines : List ℕ) × IsTold (shown_in command) (line_in command (name_of command)) seen_old seen_new limit ended lines
+      × Tells told_old told_new lines
   pub write_failed : ended ≡ Some (Plain Write) → sent_new.failures ≡ sent_old.failures + 1
   pub write_told : ended ≢ Some (Plain Write) → sent_new.failures ≡ sent_old.failures

@@ -6,9 +6,10 @@ ghost use Rattle.pysource.specs.Limits.{source_limit};
 ghost use Rattle.pyast_fault.specs.declared.fault.Fault.{Fault};
 ghost use Rattle.pyast_fault.specs.declared.fault.RunFaultCode.{RunFaultCode};
 ghost use Rattle.pyast_command.specs.Dumps.{Dumps};
+ghost use Rattle.pyast_command.specs.Inner.Reading.{KeepsFor};
 ghost use Rattle.pyast_command.specs.Runs.{ended_by, in_pieces, PerformsWhole, WritesFor};
 
-use crate::modules::{leave_to_exit, read_module, read_placed};
+use crate::modules::{Kept, leave_to_exit, read_module, read_placed};
 use pyast_fault::Fault;
 use pyast_words::Dump;
 use pyplaces::PlacesLeft;
@@ -54,18 +55,22 @@ fn write_bare<R: ByteIn, W: ByteOut>(
     style: Style,
     reader: &mut R,
     writer: &mut W,
+    kept: &mut Kept,
 ) -> Result<(), Fault>
     requires reader { (R.seen reader.old).failures < 2 ^ 64 - 1 }
     requires writer { (W.sent writer.old).failures < 2 ^ 64 - 1 }
     ensures performs { PerformsWhole in_pieces (Dumps style false)
         (R.seen reader.old) (R.seen reader.new)
         (W.sent writer.old).taken (W.sent writer.new).taken source_limit (ended_by result) }
+    ensures keeps { KeepsFor style.profile kept.old.show (R.seen reader.old) (R.seen reader.new)
+        kept.new.bytes.items (ended_by result) }
+    ensures same { kept.new.show ≡ kept.old.show }
     ensures failed { ended_by result ≡ Some (Fault.Plain RunFaultCode.Write)
         → (W.sent writer.new).failures ≡ (W.sent writer.old).failures + 1 }
     ensures unfailed { ended_by result ≢ Some (Fault.Plain RunFaultCode.Write)
         → (W.sent writer.new).failures ≡ (W.sent writer.old).failures }
 {
-    let module = read_module(alloc, style.profile, reader)?;
+    let module = read_module(alloc, style.profile, reader, kept)?;
     let pieces = PlacedPieces::new(alloc, &module, style, NoPlaces)?;
     write_pieces(alloc, pieces, writer)?;
     leave_to_exit(module);
@@ -78,18 +83,22 @@ fn write_placed<R: ByteIn, W: ByteOut>(
     style: Style,
     reader: &mut R,
     writer: &mut W,
+    kept: &mut Kept,
 ) -> Result<(), Fault>
     requires reader { (R.seen reader.old).failures < 2 ^ 64 - 1 }
     requires writer { (W.sent writer.old).failures < 2 ^ 64 - 1 }
     ensures performs { PerformsWhole in_pieces (Dumps style true)
         (R.seen reader.old) (R.seen reader.new)
         (W.sent writer.old).taken (W.sent writer.new).taken source_limit (ended_by result) }
+    ensures keeps { KeepsFor style.profile kept.old.show (R.seen reader.old) (R.seen reader.new)
+        kept.new.bytes.items (ended_by result) }
+    ensures same { kept.new.show ≡ kept.old.show }
     ensures failed { ended_by result ≡ Some (Fault.Plain RunFaultCode.Write)
         → (W.sent writer.new).failures ≡ (W.sent writer.old).failures + 1 }
     ensures unfailed { ended_by result ≢ Some (Fault.Plain RunFaultCode.Write)
         → (W.sent writer.new).failures ≡ (W.sent writer.old).failures }
 {
-    let (module, places) = read_placed(alloc, style.profile, reader)?.into_parts();
+    let (module, places) = read_placed(alloc, style.profile, reader, kept)?.into_parts();
     let pieces = PlacedPieces::new(alloc, &module, style, PlacesLeft::new(&places))?;
     write_pieces(alloc, pieces, writer)?;
     leave_to_exit(module);
@@ -103,20 +112,24 @@ pub(crate) fn write_dump<R: ByteIn, W: ByteOut>(
     asked: &Dump,
     reader: &mut R,
     writer: &mut W,
+    kept: &mut Kept,
 ) -> Result<(), Fault>
     requires reader { (R.seen reader.old).failures < 2 ^ 64 - 1 }
     requires writer { (W.sent writer.old).failures < 2 ^ 64 - 1 }
     ensures performs { PerformsWhole in_pieces (Dumps asked.now.style asked.now.attributes)
         (R.seen reader.old) (R.seen reader.new)
         (W.sent writer.old).taken (W.sent writer.new).taken source_limit (ended_by result) }
+    ensures keeps { KeepsFor asked.now.style.profile kept.old.show (R.seen reader.old) (R.seen reader.new)
+        kept.new.bytes.items (ended_by result) }
+    ensures same { kept.new.show ≡ kept.old.show }
     ensures failed { ended_by result ≡ Some (Fault.Plain RunFaultCode.Write)
         → (W.sent writer.new).failures ≡ (W.sent writer.old).failures + 1 }
     ensures unfailed { ended_by result ≢ Some (Fault.Plain RunFaultCode.Write)
         → (W.sent writer.new).failures ≡ (W.sent writer.old).failures }
 {
     if asked.attributes {
-        write_placed(alloc, asked.style, reader, writer)
+        write_placed(alloc, asked.style, reader, writer, kept)
     } else {
-        write_bare(alloc, asked.style, reader, writer)
+        write_bare(alloc, asked.style, reader, writer, kept)
     }
 }

@@ -1,7 +1,8 @@
 //! What the program does: a command on what a reader gives.
 //!
 //! [`Command::read`] reads the words of the command line. [`run`] does what a command says with
-//! what a reader gives, over two writers, and answers the status that the program ends with.
+//! what a reader gives, over two writers, and answers the status that the program ends with;
+//! [`check_one`] judges one of several sources.
 //! [`Fault`] is what can end a run early. The words are those of `pyast_words`, the faults those of
 //! `pyast_fault`.
 //!
@@ -11,15 +12,18 @@
 //! took of its reader.
 #![tactic(auto)]
 
+mod checks;
 mod dumps;
 mod listings;
 mod modules;
 mod runs;
 mod unparses;
 
+pub use checks::check_one;
 pub use pyast_fault::{
-    Fault, FaultCode, RunFaultCode, SourceFaultCode, fault_text, open_source, tell,
+    Fault, FaultCode, RunFaultCode, SourceFaultCode, fault_text, open_source, tell, tell_bad_word,
+    tell_file, tell_shown,
 };
-pub use pyast_words::{Command, Dump, Tokens, Unparse, UsageFault};
+pub use pyast_words::{Check, Command, Dump, Tokens, Unparse, UsageFault};
 pub use pysource::{ByteIn, ByteOut};
 pub use runs::run;

@@ -1,1 +1,2 @@
 mod TellLemmas
+mod RowLemmas

@@ -1,5 +1,5 @@
 -- The faults, what is printed for each, and the status that the program ends with.
-use Rattle.std.specs.Prelude.{◌≡◌, ℕ, List, ◌++◌, ◌⊎◌, codes, Option, Some, None, decimal}
+use Rattle.std.specs.Prelude.{◌≡◌, ℕ, List, [], ◌++◌, ◌⊎◌, codes, Option, Some, None, decimal}
 use Rattle.std.specs.Io.KnownBytes.{Appends}
 use Rattle.pysource.specs.Bytes.{Sent, TakesFront}
 use Rattle.pysource.specs.declared.bytes.InputFault.{InputFault}
@@ -26,6 +26,7 @@ use Rattle.pygrammar.specs.Refusals as grammar
 use Rattle.pyparse_tokens.specs.declared.faults.ParseFault.{ParseFault}
 use Rattle.pyparse_tokens.specs.declared.faults.ParseFault.TheVariants as parse_faults
 use Rattle.pyparse.specs.Modules.{code_of}
+use Rattle.pyast_fault.specs.Rows.{row_and_caret}
 use Rattle.pyast_fault.specs.declared.fault.SourceFaultCode.{SourceFaultCode}
 use Rattle.pyast_fault.specs.declared.fault.SourceFaultCode.TheVariants.{UnsupportedEncoding, BomConflict, NotUtf8, NotAscii, LoneReturn}
 use Rattle.pyast_fault.specs.declared.fault.SourceFaultCode.TheVariants.{BadCharacter, UnterminatedString, EofInString, EofInStatement}
@@ -186,6 +187,26 @@ plain_line text = codes "pyast: " ++ (text ++ codes "\n")
 abbrev pub fault_line : List ℕ → Fault → List ℕ
 fault_line name (InSource code place) = source_line name place.row place.column (text_of (Source code))
 fault_line name (Plain code) = plain_line (text_of (Run code))
+
+-- what is shown of a fault's place, where the bytes of the source are given: its row, and a caret below the place
+abbrev pub rows_of : Option (List ℕ) → Fault → List ℕ
+rows_of None fault = []
+rows_of (Some bytes) (InSource code place) = row_and_caret bytes place
+rows_of (Some bytes) (Plain code) = []
+
+-- `pyast: FIRST: SECOND`
+abbrev pub pair_line : List ℕ → List ℕ → List ℕ
+pair_line first second = plain_line (first ++ (codes ": " ++ second))
+
+-- the line of a fault of one of several files: where the file can't be opened or read, it is named
+abbrev pub file_line : List ℕ → Fault → List ℕ
+file_line name (Plain Open) = pair_line name (text_of (Run Open))
+file_line name (Plain Read) = pair_line name (text_of (Run Read))
+file_line name fault = fault_line name fault
+
+-- the line of bad words, by one of them or by what they lack
+abbrev pub bad_word_line : List ℕ → List ℕ
+bad_word_line word = pair_line (text_of (Run BadArguments)) word
 
 -- the writer took the line whole, or a front of it where it failed
 pub record Tells (sent_old sent_new : Sent) (line : List ℕ) : Type 0 where

@@ -1,21 +1,18 @@
 //! The faults that the program reports: their texts, their statuses and their lines.
-ghost use Rattle.std.specs.Prelude.{◌≡◌, ◌<◌, ◌≤◌, ◌+◌, ◌-◌, ◌^◌, IfOk, string_bytes, Some};
+ghost use Rattle.std.specs.Prelude.{◌≡◌, Some};
 ghost use Rattle.pyparse.specs.Modules.{code_of};
 ghost use Rattle.pyast_fault.specs.declared.fault.Fault.{Fault};
 ghost use Rattle.pyast_fault.specs.declared.fault.FaultCode.{FaultCode};
 ghost use Rattle.pyast_fault.specs.declared.fault.RunFaultCode.{RunFaultCode};
 ghost use Rattle.pyast_fault.specs.Faults.{text_of, token_text, code_status, status_of, fault_code};
-ghost use Rattle.pyast_fault.specs.Faults.{fault_line, source_line, plain_line, of_listing, of_resume};
-ghost use Rattle.pyast_fault.specs.Faults.{of_stream, of_source, of_input, of_refusal, of_grammar};
-ghost use Rattle.pyast_fault.specs.Faults.{of_parse, listing_code, Tells, IsToldAs};
+ghost use Rattle.pyast_fault.specs.Faults.{listing_code, of_grammar, of_input, of_listing, of_parse};
+ghost use Rattle.pyast_fault.specs.Faults.{of_refusal, of_resume, of_source, of_stream};
 
 use pylex::{ListingError, ListingFault, ResumeFault};
 use pyparse::{GrammarError, ParseFault};
-use pysource::{
-    ByteOut, InputFault, LineError, Place, SourceFault, StreamFault, WriteFailed, write_all,
-};
+use pysource::{InputFault, LineError, Place, SourceFault, StreamFault, WriteFailed};
 use pytoken::{Refusal, TokenError};
-use std::alloc::{AllocError, Global};
+use std::alloc::AllocError;
 
 /// What is wrong with a source.
 #[derive(Clone, Copy, Debug, PartialEq, Eq)]
@@ -322,57 +319,4 @@ impl Fault {
     {
         self.code().status()
     }
-}
-
-/// The line of a fault of the source.
-fn source_line(
-    alloc: Global,
-    name: &str,
-    row: usize,
-    column: usize,
-    text: &str,
-) -> Result<String, AllocError>
-    ensures { IfOk result (λ line. string_bytes line ≡ source_line name.now row column text.now) }
-{
-    format!(in alloc; "{name}:{row}:{column}: error: {text}\n")
-}
-
-/// Writes the line of a fault without a place. It takes no memory.
-fn tell_plain<F: ByteOut>(code: RunFaultCode, faults: &mut F) -> Result<(), WriteFailed>
-    requires { (F.sent faults.old).failures < 2 ^ 64 - 1 }
-    ensures told { Tells (F.sent faults.old) (F.sent faults.new)
-        (plain_line (text_of (FaultCode.Run code))) }
-    ensures once { (F.sent faults.new).failures ≤ (F.sent faults.old).failures + 1 }
-{
-    write_all(faults, b"pyast: ")?;
-    write_all(faults, fault_text(FaultCode::Run(code)).as_bytes())?;
-    write_all(faults, b"\n")
-}
-
-/// Tells a fault, in the line that it has: that of a fault of the source begins with the name of
-/// the source and the place. A failed write of this line is reported nowhere.
-///
-/// The line of a place takes memory. Where there is none for it, that is reported instead, and is
-/// the answer.
-pub fn tell<F: ByteOut>(alloc: Global, name: &str, fault: Fault, faults: &mut F) -> Fault
-    requires { (F.sent faults.old).failures < 2 ^ 64 - 1 }
-    ensures told { Tells (F.sent faults.old) (F.sent faults.new) (fault_line name.now result) }
-    ensures once { (F.sent faults.new).failures ≤ (F.sent faults.old).failures + 1 }
-    ensures same { IsToldAs fault result }
-{
-    let told = match fault {
-        Fault::InSource(code, place) => {
-            let text = fault_text(FaultCode::Source(code));
-            match source_line(alloc, name, place.row, place.column, text) {
-                Ok(line) => {
-                    let _ = write_all(faults, line.as_bytes());
-                    return fault;
-                }
-                Err(_) => RunFaultCode::Memory,
-            }
-        }
-        Fault::Plain(code) => code,
-    };
-    let _ = tell_plain(told, faults);
-    Fault::Plain(told)
 }

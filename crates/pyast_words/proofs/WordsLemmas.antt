@@ -1,7 +1,8 @@
--- Carries: Command::read, dump_form. What `clap` finds among the words gives the command, or refuses them.
+-- Carries: read_words, dump_form, files_of. What `clap` finds among the words gives the command, or refuses them.
 use Rattle.std.proofs.Common.{◌≡◌, ◌≢◌, ◌⊎◌, ℕ, ◌≤◌, ◌<◌, Bool, true, false, not, ◌||◌, List, [], ◌∷◌, ◌++◌, codes, refl, sym, ap, ap₂}
 use Rattle.std.proofs.Common.{subst, ◌∙◌, inl, inr, Option, Some, None, Result, Ok, Err, arith}
-use Rattle.std.specs.Prelude.{IfOk, unwrap_or}
+use Rattle.std.specs.Borrow.{Bor}
+use Rattle.std.specs.Prelude.{IfOk, map, option_map, unwrap_or}
 use Rattle.std.specs.Str.Parse.{ParsesUnsigned}
 use Rattle.clap.specs.Built.{AddsArg}
 use Rattle.clap.specs.Faults.{fault_of, is_simple_and_free}
@@ -48,6 +49,12 @@ is_flag (Some text) set none set_by unset_by = (λ e. set_by (ap (λ t. Some t) 
 pub not_not : (b : Bool) → not (not b) ≡ b
 not_not true = refl
 not_not false = refl
+
+-- the texts of a list that may not be there
+pub texts_or_none : (o : Option (Bor (List (Bor (List ℕ))))) (none : Bor (List (Bor (List ℕ)))) → none.now ≡ []
+    → map (λ word. word.now) (unwrap_or o none).now ≡ unwrap_or (option_map (λ list. map (λ word. word.now) list.now) o) []
+texts_or_none None none empty = ap (map (λ word. word.now)) empty
+texts_or_none (Some list) none empty = refl
 
 -- the number that was read of what was found for an option
 module _ {E : Type 0} (gives : List ℕ → Result ℕ E → Type 0) (parses : (t : List ℕ) (r : Result ℕ E) → gives t r
@@ -106,6 +113,8 @@ refuses_kind words kind faults.BadArguments x (inr among) = record {
   not_help = λ help. only_one kind DisplayHelp words x.0 help among;
   not_version = λ version. only_one kind DisplayVersion words x.1 version among;
 }
+refuses_kind words kind (faults.BadWord word) x among = absurd x
+refuses_kind words kind faults.WordMissing x among = absurd x
 refuses_kind words kind (faults.HelpAsked text) x (inl e) = let same : DisplayHelp ≡ OutOfMemory = sym x ∙ e in cc
 refuses_kind words kind (faults.HelpAsked text) x (inr among) = rw (← x) among
 refuses_kind words kind (faults.VersionAsked text) x (inl e) = let same : DisplayVersion ≡ OutOfMemory = sym x ∙ e in cc
@@ -122,6 +131,8 @@ refuses_found words sub faults.BadArguments none is misses = record {
   not_help = λ help. let e : [] ≡ DisplayHelp ∷ [] = sym none ∙ help in cc;
   not_version = λ version. let e : [] ≡ DisplayVersion ∷ [] = sym none ∙ version in cc;
 }
+refuses_found words sub (faults.BadWord word) none is misses = absurd misses
+refuses_found words sub faults.WordMissing none is misses = absurd misses
 refuses_found words sub (faults.HelpAsked text) none is misses = absurd misses
 refuses_found words sub (faults.VersionAsked text) none is misses = absurd misses
 refuses_found words sub faults.MalformedCursor none is misses = (none, (misses.0, sym is ∙ misses.1, misses.2))

@@ -6,6 +6,9 @@
 //! The words of contracts are in `specs/Words`.
 #![tactic(auto)]
 
+mod bad_words;
 mod command;
+mod forms;
+mod found;
 
-pub use command::{Command, Dump, Tokens, Unparse, UsageFault};
+pub use command::{Check, Command, Dump, Tokens, Unparse, UsageFault};

@@ -1,7 +1,0 @@
-use Rattle.pyast_words.proofs.command.profile_of.Goals as goal
-
-pub returns : goal.returns
-returns c = record {
-  newer = c.version_of.ensures;
-  whole = c.extent_of.ensures;
-}
