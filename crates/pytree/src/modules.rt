@@ -4,8 +4,8 @@ ghost use Rattle.std.specs.Prelude.{◌≡◌, ◌↔◌, IsTrue, IfOk};
 ghost use Rattle.pytree_node.specs.TreeOf.{module_of};
 
 use pytree_copy::copy_stmts;
+use pytree_difference::same_modules;
 use pytree_node::Module;
-use pytree_same::same_stmts;
 use std::alloc::{AllocError, Global};
 
 /// A tree that is equal to this one. Where memory is refused, what was made of it is dropped.
@@ -21,5 +21,5 @@ pub fn copy(alloc: Global, tree: &Module) -> Result<Module, AllocError>
 pub fn same(a: &Module, b: &Module) -> bool
     ensures { IsTrue result ↔ (module_of a.now ≡ module_of b.now) }
 {
-    same_stmts(&a.body, &b.body)
+    same_modules(a, b)
 }

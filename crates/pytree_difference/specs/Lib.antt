@@ -1,0 +1,5 @@
+pub mod Differences
+pub mod Trails
+pub mod Weights
+pub mod Inner
+pub mod Texts

@@ -1,0 +1,24 @@
+//! What each node of a tree is: its class, and what its fields hold, in order, lent from the tree.
+//!
+//! Python library reference, `ast`: "Abstract grammar". `specs/Things` says what each class holds,
+//! `specs/Classes` the names of classes and fields.
+#![tactic(auto)]
+
+mod classes;
+mod elements;
+mod expressions;
+mod leaves;
+mod members;
+mod nodes;
+mod parts;
+mod patterns;
+mod rows;
+mod statements;
+
+pub use classes::Class;
+pub use elements::Element;
+pub use leaves::Leaf;
+pub use members::module_node;
+pub use nodes::Node;
+pub use parts::Part;
+pub use rows::Row;

@@ -1,6 +1,0 @@
-mod ExprClasses
-mod PatternClasses
-mod StmtClasses
-mod SameLists
-mod Members
-mod Refuted
