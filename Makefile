@@ -1,5 +1,5 @@
 # make            makes sure that the program is there, and prints its path: it is unpacked from release/, and never proved
-# make test       checks what needs no Rattle kit: three minutes
+# make test       checks what needs no Rattle kit: two minutes
 # make verify     compares release/PROVENANCE with the sources and with the program in release/: seconds
 # make check      proves and checks everything, by the Rattle kit: the gate. Its first line says how long it takes, and in how much memory
 # make prove      proves and builds the program alone

@@ -374,7 +374,7 @@ def verifies(checks, command):
 def has_man(checks, command):
     """A check of the manual page."""
     if shutil.which("man"):
-        writes("dump and unparse Python source", MANPAGER="cat")(checks, command)
+        writes("unparse and check Python source", MANPAGER="cat")(checks, command)
     else:
         checks.skip(f"{command}: there is no man")
 
@@ -418,6 +418,7 @@ COMMANDS = {
     "pyast tokens --count 10 FILE": on_files("COMMENT", bad=0),
     "./pyast unparse --whole FILE": on_files("x = 1.5\n"),
     "pyast unparse --whole FILE": on_files("x = 1.5\n"),
+    "./pyast check --whole OLD NEW": on_files(),
     **{f'old=$({pyast} dump --whole OLD) && new=$({pyast} dump --whole NEW) && [ "$old" = "$new" ]': on_files() for pyast in ("./pyast", "pyast")},
     'make install PREFIX="$HOME/.local"': installs,
     "tools/vendor pysource pylex ../mine": vendors,
