@@ -534,23 +534,23 @@ list_back (e ∷ es) = λ i. e ∷ list_back es i
 row_back : (es : List Trees.Expr) → expr_list (exprs_of (of_things (expr_things (exprs es)))) ≡ es
 row_back es = ap expr_list (exprs_back (exprs es)) ∙ list_back es
 
-alias_parts : (name : Identifier) (asname : Option Identifier) →
+alias_held : (name : Identifier) (asname : Option Identifier) →
     of_thing (alias_thing (record { name = name; asname = asname })) ≡ An_alias (record { name = name; asname = asname })
-alias_parts name None = refl
-alias_parts name (Some other) = refl
+alias_held name None = refl
+alias_held name (Some other) = refl
 
 aliases_back : (names : List Trees.Alias) → aliases_of (of_things (alias_things names)) ≡ names
 aliases_back [] = refl
-aliases_back (a ∷ names) = λ i. as_alias (alias_parts a.name a.asname i) ∷ aliases_back names i
+aliases_back (a ∷ names) = λ i. as_alias (alias_held a.name a.asname i) ∷ aliases_back names i
 
-item_parts : (e : Trees.Expr) (vars : Option Trees.Expr) → of_thing (item_thing (record { context_expr = e; optional_vars = vars })) ≡
+item_held : (e : Trees.Expr) (vars : Option Trees.Expr) → of_thing (item_thing (record { context_expr = e; optional_vars = vars })) ≡
     An_item (record { context_expr = e; optional_vars = vars })
-item_parts e None = λ i. An_item (record { context_expr = as_expr (expr_back e i); optional_vars = None })
-item_parts e (Some vars) = λ i. An_item (record { context_expr = as_expr (expr_back e i); optional_vars = as_option (expr_back vars i) })
+item_held e None = λ i. An_item (record { context_expr = as_expr (expr_back e i); optional_vars = None })
+item_held e (Some vars) = λ i. An_item (record { context_expr = as_expr (expr_back e i); optional_vars = as_option (expr_back vars i) })
 
 items_back : (items : List Trees.Item) → items_of (of_things (item_things items)) ≡ items
 items_back [] = refl
-items_back (item ∷ items) = λ i. as_item (item_parts item.context_expr item.optional_vars i) ∷ items_back items i
+items_back (item ∷ items) = λ i. as_item (item_held item.context_expr item.optional_vars i) ∷ items_back items i
 
 type_param_back : (p : Trees.TypeParam) → of_thing (type_param_thing p) ≡ A_type_param p
 type_param_back (Trees.TypeVar name None) = refl

@@ -1,31 +1,31 @@
 -- What a walk finds, step by step.
 --
--- Carries: same_part, same_held, same_element, same_node, same_rows.
+-- Carries: same_field, same_held, same_child, same_node, same_rows.
 use Rattle.std.proofs.Common.{◌≡◌, ◌≤◌, ◌<◌, ◌+◌, ℕ, zero, suc, arith, Bool, true, false, List, [], ◌∷◌, Option, Some, None, refl, sym, ap, subst}
 use Rattle.std.proofs.Common.{◌∙◌, ◌↔◌, IsTrue, min}
 use borrow.Author.Count.{below_more}
 use Rattle.pytree_fields.specs.declared.classes.Class.{Class}
 use Rattle.pytree_fields.specs.Leaves as leaf
-use Rattle.pytree_fields.specs.Things.{Thing, Things, Leaf, Row, Node, no_thing, a_thing, left_out, part_at}
+use Rattle.pytree_fields.specs.Things.{Thing, Things, Leaf, Row, Node, no_thing, a_thing, left_out, thing_at}
 use Rattle.pytree_fields.specs.Things.{count, IsRowOrNothing, NotRow}
 use Rattle.pytree_fields.proofs.Callers.Nodes.{HasClass}
 use Rattle.pytree_difference.specs.Differences.{AreAlike, FirstDifference, member}
 use Rattle.pytree_difference.specs.Trails.{Led, Pushed, Walked}
 use Rattle.pytree_difference.specs.Weights.{option_weight, weights}
 
--- a part weighs no more than all of them
-pub part_weight : (xs : Things) (i : ℕ) → option_weight (part_at xs i) ≤ weights xs
-part_weight no_thing i = omega arith
-part_weight (a_thing x xs) zero = omega arith
-part_weight (a_thing x xs) (suc i) = let h : option_weight (part_at xs i) ≤ weights xs = part_weight xs i in omega (arith, h)
-part_weight (left_out xs) zero = omega arith
-part_weight (left_out xs) (suc i) = part_weight xs i
+-- a thing weighs no more than all of them
+pub thing_weight : (xs : Things) (i : ℕ) → option_weight (thing_at xs i) ≤ weights xs
+thing_weight no_thing i = omega arith
+thing_weight (a_thing x xs) zero = omega arith
+thing_weight (a_thing x xs) (suc i) = let h : option_weight (thing_at xs i) ≤ weights xs = thing_weight xs i in omega (arith, h)
+thing_weight (left_out xs) zero = omega arith
+thing_weight (left_out xs) (suc i) = thing_weight xs i
 
-pub member_weight : (xs : Things) (i : ℕ) (x : Option Thing) → part_at xs i ≡ x → option_weight x ≤ weights xs
-member_weight xs i x e = subst (λ z. option_weight z ≤ weights xs) e (part_weight xs i)
+pub member_weight : (xs : Things) (i : ℕ) (x : Option Thing) → thing_at xs i ≡ x → option_weight x ≤ weights xs
+member_weight xs i x e = subst (λ z. option_weight z ≤ weights xs) e (thing_weight xs i)
 
 -- lists that are equal index by index are equal
-pub equal_things : (n : ℕ) (xs ys : Things) → count xs ≡ n → count ys ≡ n → ((j : ℕ) → j < n → part_at xs j ≡ part_at ys j) → xs ≡ ys
+pub equal_things : (n : ℕ) (xs ys : Things) → count xs ≡ n → count ys ≡ n → ((j : ℕ) → j < n → thing_at xs j ≡ thing_at ys j) → xs ≡ ys
 equal_things n no_thing no_thing ex ey h = refl
 equal_things n no_thing (a_thing y ys) ex ey h = absurd (omega (arith, ex, ey))
 equal_things n no_thing (left_out ys) ex ey h = absurd (omega (arith, ex, ey))
@@ -141,16 +141,16 @@ two_classes c d xs ys old n = ended old n (λ e. (let f : c ≡ d = cc in n f))
 
 -- nodes of one class whose fields hold the same
 pub same_fields : (c d : Class) (xs ys : Things) (n : ℕ) (old new : Option (List ℕ)) → c ≡ d → count xs ≡ n → count ys ≡ n →
-    ((j : ℕ) → j < n → part_at xs j ≡ part_at ys j) → new ≡ old → Walked (Some (Node c xs)) (Some (Node d ys)) old new true
+    ((j : ℕ) → j < n → thing_at xs j ≡ thing_at ys j) → new ≡ old → Walked (Some (Node c xs)) (Some (Node d ys)) old new true
 same_fields c d xs ys n old new alike ex ey h kept = let e : xs ≡ ys = equal_things n xs ys ex ey h in (cc, kept)
 
 -- lists of the same elements
-pub same_elements : (xs ys : Things) (n : ℕ) (old new : Option (List ℕ)) → count xs ≡ n → count ys ≡ n →
-    ((j : ℕ) → j < n → part_at xs j ≡ part_at ys j) → new ≡ old → Walked (Some (Row xs)) (Some (Row ys)) old new true
-same_elements xs ys n old new ex ey h kept = (ap (λ z. Some (Row z)) (equal_things n xs ys ex ey h), kept)
+pub same_children : (xs ys : Things) (n : ℕ) (old new : Option (List ℕ)) → count xs ≡ n → count ys ≡ n →
+    ((j : ℕ) → j < n → thing_at xs j ≡ thing_at ys j) → new ≡ old → Walked (Some (Row xs)) (Some (Row ys)) old new true
+same_children xs ys n old new ex ey h kept = (ap (λ z. Some (Row z)) (equal_things n xs ys ex ey h), kept)
 
 -- past the end of a list there is nothing
-pub past_end : (xs : Things) (i : ℕ) → count xs ≤ i → part_at xs i ≡ None
+pub past_end : (xs : Things) (i : ℕ) → count xs ≤ i → thing_at xs i ≡ None
 past_end no_thing i le = refl
 past_end (a_thing x xs) zero le = absurd (omega (arith, le))
 past_end (a_thing x xs) (suc i) le = past_end xs i (omega (arith, le))
@@ -171,10 +171,10 @@ one_ended (Some x) (Some y) i m n old e other px nx py ny =
 
 -- lists of other lengths that are equal as far as the shorter goes
 pub other_lengths : (xs ys : Things) (i m n : ℕ) (old mid new : Option (List ℕ)) → i ≡ min m n → (m ≡ n → ⊥) → count xs ≡ m →
-    count ys ≡ n → (part_at xs i ≡ None → m ≤ i) → (part_at ys i ≡ None → n ≤ i) →
-    ((j : ℕ) → j < i → part_at xs j ≡ part_at ys j) → mid ≡ old → Pushed mid i new → Walked (Some (Row xs)) (Some (Row ys)) old new false
+    count ys ≡ n → (thing_at xs i ≡ None → m ≤ i) → (thing_at ys i ≡ None → n ≤ i) →
+    ((j : ℕ) → j < i → thing_at xs j ≡ thing_at ys j) → mid ≡ old → Pushed mid i new → Walked (Some (Row xs)) (Some (Row ys)) old new false
 other_lengths xs ys i m n old mid new e other cx cy nx ny before kept p =
-    let w : Walked (part_at xs i) (part_at ys i) old old false = one_ended (part_at xs i) (part_at ys i) i m n old e other
+    let w : Walked (thing_at xs i) (thing_at ys i) old old false = one_ended (thing_at xs i) (thing_at ys i) i m n old e other
     (λ l. past_end xs i (omega (arith, l, cx))) nx (λ l. past_end ys i (omega (arith, l, cy))) ny in
     let q : Pushed old i new = subst (λ z. Pushed z i new) kept p in
     stepped i old old new tt before w q

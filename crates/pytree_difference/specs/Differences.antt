@@ -4,7 +4,7 @@
 -- member, from the first on. Anything else differs where it is not the same: a node and a node of another class, a node and a leaf, nothing and
 -- a thing, two leaves of other values.
 use Rattle.std.specs.Prelude.{◌≡◌, ◌<◌, ℕ, List, [], ◌∷◌, Option, Some, None}
-use Rattle.pytree_fields.specs.Things.{Thing, Things, Leaf, Row, Node, no_thing, part_at}
+use Rattle.pytree_fields.specs.Things.{Thing, Things, Leaf, Row, Node, no_thing, thing_at}
 
 -- what a thing holds: the elements of a list, or what the fields of a node hold
 abbrev pub members : Option Thing → Things
@@ -15,7 +15,7 @@ members (Some (Node class xs)) = xs
 
 -- one of them, or nothing
 abbrev pub member : Option Thing → ℕ → Option Thing
-member x i = part_at (members x) i
+member x i = thing_at (members x) i
 
 -- What is at a path: a path is a list of steps, and a step says which member is meant, of those of its list or of the fields of its class.
 abbrev pub at_path : Option Thing → List ℕ → Option Thing

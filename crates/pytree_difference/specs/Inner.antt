@@ -1,4 +1,4 @@
--- What is asked of a node that the walk is given: that its parts are as many as its class has fields.
+-- What is asked of a node that the walk is given: that it holds as much as its class has fields.
 use Rattle.std.specs.Prelude.{◌≡◌, ◌≤◌}
 use Rattle.pytree_fields.specs.Classes.{field_count}
 use Rattle.pytree_fields.specs.declared.nodes.Node.{Node}

@@ -2,7 +2,7 @@
 
 ghost use Rattle.std.specs.Prelude.{◌≡◌, ◌↔◌, IsTrue};
 ghost use Rattle.pytree_node.specs.TreeOf.{constant_of};
-ghost use Rattle.pytree_fields.specs.Parts.{leaf_of};
+ghost use Rattle.pytree_fields.specs.LentThings.{leaf_of};
 ghost use Rattle.pytree_fields.specs.Things.{without_kind};
 
 use pynumber::Double;

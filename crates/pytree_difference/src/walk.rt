@@ -3,20 +3,20 @@
 ghost use Rattle.std.specs.Prelude.{◌≡◌, ◌≤◌, Some, ℕ};
 ghost use Rattle.pytree_node.specs.TreeOf.{module_of};
 ghost use Rattle.pytree_fields.specs.Classes.{field_count};
-ghost use Rattle.pytree_fields.specs.Parts.{element_thing, node_thing, part_thing, row_things};
+ghost use Rattle.pytree_fields.specs.LentThings.{child_thing, node_thing, held_thing, row_things};
 ghost use Rattle.pytree_fields.specs.Things.{NotRow, Row as RowThing, module_thing};
 ghost use Rattle.pytree_difference.specs.Trails.{Walked};
 ghost use Rattle.pytree_difference.specs.Inner.{Lent};
 
 use crate::leaves::same_leaf;
 use crate::trails::Trail;
-use pytree_fields::{Element, Node, Part, Row, module_node};
+use pytree_fields::{Child, Held, Node, Row, module_node};
 use pytree_node::{Module, Version};
 
 /// Whether what two fields hold is equal.
 #[cycle(walk)]
-fn same_part<T: Trail>(version: Version, a: Part<'_>, b: Part<'_>, trail: &mut T) -> bool
-    ensures { Walked (part_thing version a.entry) (part_thing version b.entry)
+fn same_field<T: Trail>(version: Version, a: Held<'_>, b: Held<'_>, trail: &mut T) -> bool
+    ensures { Walked (held_thing version a.entry) (held_thing version b.entry)
         (T.steps trail.old) (T.steps trail.new) result }
 {
     match a.row() {
@@ -33,18 +33,18 @@ fn same_part<T: Trail>(version: Version, a: Part<'_>, b: Part<'_>, trail: &mut T
 
 /// Whether two fields that hold no list hold the same.
 #[cycle(walk)]
-fn same_held<T: Trail>(version: Version, a: Part<'_>, b: Part<'_>, trail: &mut T) -> bool
-    requires a { NotRow (part_thing version a) }
-    requires b { NotRow (part_thing version b) }
-    ensures { Walked (part_thing version a.entry) (part_thing version b.entry)
+fn same_held<T: Trail>(version: Version, a: Held<'_>, b: Held<'_>, trail: &mut T) -> bool
+    requires a { NotRow (held_thing version a) }
+    requires b { NotRow (held_thing version b) }
+    ensures { Walked (held_thing version a.entry) (held_thing version b.entry)
         (T.steps trail.old) (T.steps trail.new) result }
 {
-    match a.element() {
-        Some(x) => match b.element() {
-            Some(y) => same_element(version, x, y, trail),
+    match a.child() {
+        Some(x) => match b.child() {
+            Some(y) => same_child(version, x, y, trail),
             None => false,
         },
-        None => match b.element() {
+        None => match b.child() {
             Some(_) => false,
             None => true,
         },
@@ -53,8 +53,8 @@ fn same_held<T: Trail>(version: Version, a: Part<'_>, b: Part<'_>, trail: &mut T
 
 /// Whether two leaves or nodes are equal.
 #[cycle(walk)]
-fn same_element<T: Trail>(version: Version, a: Element<'_>, b: Element<'_>, trail: &mut T) -> bool
-    ensures { Walked (Some (element_thing version a.entry)) (Some (element_thing version b.entry))
+fn same_child<T: Trail>(version: Version, a: Child<'_>, b: Child<'_>, trail: &mut T) -> bool
+    ensures { Walked (Some (child_thing version a.entry)) (Some (child_thing version b.entry))
         (T.steps trail.old) (T.steps trail.new) result }
 {
     match a.leaf() {
@@ -81,10 +81,10 @@ fn same_node<T: Trail>(version: Version, a: &Node<'_>, b: &Node<'_>, trail: &mut
         return false;
     }
     // As slices, whose elements the prover can read one by one, unlike an array's.
-    let parts = &a.parts[..];
-    let other_parts = &b.parts[..];
+    let held = &a.held[..];
+    let other_held = &b.held[..];
     for i in 0..a.len {
-        if !same_part(version, parts[i], other_parts[i], trail) {
+        if !same_field(version, held[i], other_held[i], trail) {
             trail.push(i);
             return false;
         }
@@ -100,7 +100,7 @@ fn same_rows<T: Trail>(version: Version, a: Row<'_>, b: Row<'_>, trail: &mut T) 
 {
     let len = a.len().min(b.len());
     for i in 0..len {
-        if !same_element(version, a.get(i), b.get(i), trail) {
+        if !same_child(version, a.get(i), b.get(i), trail) {
             trail.push(i);
             return false;
         }

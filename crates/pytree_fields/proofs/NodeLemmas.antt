@@ -1,6 +1,6 @@
 -- What is a node is no list.
 --
--- Carries: Part::row.
+-- Carries: Held::row.
 use Rattle.std.proofs.Common.{Some}
 use Rattle.pytree_node.specs.Trees
 use Rattle.pytree_fields.specs.Things.{NotRow, arg_thing, arguments_thing, expr_thing, pattern_thing}

@@ -1,5 +1,5 @@
 pub mod Leaves
 pub mod Things
 pub mod Classes
-pub mod Parts
+pub mod LentThings
 pub mod Shown

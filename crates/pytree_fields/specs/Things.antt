@@ -35,12 +35,12 @@ with_option None rest = left_out rest
 with_option (Some x) rest = a_thing x rest
 
 -- the element at an index, or what a field holds, if that is something
-abbrev pub part_at : Things → ℕ → Option Thing
-part_at no_thing n = None
-part_at (a_thing x xs) zero = Some x
-part_at (a_thing x xs) (suc n) = part_at xs n
-part_at (left_out xs) zero = None
-part_at (left_out xs) (suc n) = part_at xs n
+abbrev pub thing_at : Things → ℕ → Option Thing
+thing_at no_thing n = None
+thing_at (a_thing x xs) zero = Some x
+thing_at (a_thing x xs) (suc n) = thing_at xs n
+thing_at (left_out xs) zero = None
+thing_at (left_out xs) (suc n) = thing_at xs n
 
 -- how many there are, those that are left out too
 abbrev pub count : Things → ℕ

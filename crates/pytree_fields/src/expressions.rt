@@ -6,13 +6,13 @@ ghost use Rattle.pytree_node.specs.Trees.{optional};
 ghost use Rattle.pytree_node.specs.TreeOf.{boxed_of, call_of, compare_of, constant_of, dict_comp_of, dict_of};
 ghost use Rattle.pytree_node.specs.TreeOf.{slice_of, tree_of};
 ghost use Rattle.pytree_fields.specs.Classes.{field_count};
-ghost use Rattle.pytree_fields.specs.Parts.{node_thing, with_part};
+ghost use Rattle.pytree_fields.specs.LentThings.{node_thing, with_held};
 ghost use Rattle.pytree_fields.specs.Things.{Things, expr_thing, kind_field, optional_field};
 
 use crate::classes::Class;
+use crate::held::Held;
 use crate::leaves::Leaf;
 use crate::nodes::Node;
-use crate::parts::Part;
 use crate::rows::Row;
 use pytree_node::{Call, Compare, Constant, Dict, DictComp, Expr, Slice};
 
@@ -26,57 +26,57 @@ pub(crate) fn expr_node<'a>(e: &'a Expr) -> Node<'a>
     match e {
         Expr::BoolOp { op, values } => Node::two(
             Class::BoolOp,
-            Part::Leaf(Leaf::Bool(*op)),
-            Part::Row(Row::Exprs(values)),
+            Held::Leaf(Leaf::Bool(*op)),
+            Held::Row(Row::Exprs(values)),
         ),
         Expr::NamedExpr { target, value } => Node::two(
             Class::NamedExpr,
-            Part::Expr(target),
-            Part::Expr(value),
+            Held::Expr(target),
+            Held::Expr(value),
         ),
         Expr::BinOp { left, op, right } => Node::three(
             Class::BinOp,
-            Part::Expr(left),
-            Part::Leaf(Leaf::Operator(*op)),
-            Part::Expr(right),
+            Held::Expr(left),
+            Held::Leaf(Leaf::Operator(*op)),
+            Held::Expr(right),
         ),
         Expr::UnaryOp { op, operand } => Node::two(
             Class::UnaryOp,
-            Part::Leaf(Leaf::Unary(*op)),
-            Part::Expr(operand),
+            Held::Leaf(Leaf::Unary(*op)),
+            Held::Expr(operand),
         ),
         Expr::Lambda { args, body } => Node::two(
             Class::Lambda,
-            Part::Arguments(args),
-            Part::Expr(body),
+            Held::Arguments(args),
+            Held::Expr(body),
         ),
         Expr::IfExp { test, body, orelse } => Node::three(
             Class::IfExp,
-            Part::Expr(test),
-            Part::Expr(body),
-            Part::Expr(orelse),
+            Held::Expr(test),
+            Held::Expr(body),
+            Held::Expr(orelse),
         ),
         Expr::Dict(dict) => dict_node(dict),
-        Expr::Set { elts } => Node::one(Class::Set, Part::Row(Row::Exprs(elts))),
+        Expr::Set { elts } => Node::one(Class::Set, Held::Row(Row::Exprs(elts))),
         Expr::ListComp { elt, generators } => Node::two(
             Class::ListComp,
-            Part::Expr(elt),
-            Part::Row(Row::Comprehensions(generators)),
+            Held::Expr(elt),
+            Held::Row(Row::Comprehensions(generators)),
         ),
         Expr::SetComp { elt, generators } => Node::two(
             Class::SetComp,
-            Part::Expr(elt),
-            Part::Row(Row::Comprehensions(generators)),
+            Held::Expr(elt),
+            Held::Row(Row::Comprehensions(generators)),
         ),
         Expr::DictComp(comp) => dict_comp_node(comp),
         Expr::GeneratorExp { elt, generators } => Node::two(
             Class::GeneratorExp,
-            Part::Expr(elt),
-            Part::Row(Row::Comprehensions(generators)),
+            Held::Expr(elt),
+            Held::Row(Row::Comprehensions(generators)),
         ),
-        Expr::Await { value } => Node::one(Class::Await, Part::Expr(value)),
-        Expr::Yield { value } => Node::one(Class::Yield, boxed_part(value)),
-        Expr::YieldFrom { value } => Node::one(Class::YieldFrom, Part::Expr(value)),
+        Expr::Await { value } => Node::one(Class::Await, Held::Expr(value)),
+        Expr::Yield { value } => Node::one(Class::Yield, boxed_held(value)),
+        Expr::YieldFrom { value } => Node::one(Class::YieldFrom, Held::Expr(value)),
         Expr::Compare(compare) => compare_node(compare),
         Expr::Call(call) => call_node(call),
         Expr::FormattedValue {
@@ -85,71 +85,71 @@ pub(crate) fn expr_node<'a>(e: &'a Expr) -> Node<'a>
             format_spec,
         } => Node::three(
             Class::FormattedValue,
-            Part::Expr(value),
-            Part::Leaf(Leaf::Conversion(*conversion)),
-            boxed_part(format_spec),
+            Held::Expr(value),
+            Held::Leaf(Leaf::Conversion(*conversion)),
+            boxed_held(format_spec),
         ),
-        Expr::JoinedStr { values } => Node::one(Class::JoinedStr, Part::Row(Row::Exprs(values))),
+        Expr::JoinedStr { values } => Node::one(Class::JoinedStr, Held::Row(Row::Exprs(values))),
         Expr::Constant { value } => Node::two(
             Class::Constant,
-            Part::Leaf(Leaf::Value(value)),
-            kind_part(value),
+            Held::Leaf(Leaf::Value(value)),
+            kind_held(value),
         ),
         Expr::Attribute { value, attr, ctx } => Node::three(
             Class::Attribute,
-            Part::Expr(value),
-            Part::Leaf(Leaf::Name(attr)),
-            Part::Leaf(Leaf::Context(*ctx)),
+            Held::Expr(value),
+            Held::Leaf(Leaf::Name(attr)),
+            Held::Leaf(Leaf::Context(*ctx)),
         ),
         Expr::Subscript { value, slice, ctx } => Node::three(
             Class::Subscript,
-            Part::Expr(value),
-            Part::Expr(slice),
-            Part::Leaf(Leaf::Context(*ctx)),
+            Held::Expr(value),
+            Held::Expr(slice),
+            Held::Leaf(Leaf::Context(*ctx)),
         ),
         Expr::Starred { value, ctx } => Node::two(
             Class::Starred,
-            Part::Expr(value),
-            Part::Leaf(Leaf::Context(*ctx)),
+            Held::Expr(value),
+            Held::Leaf(Leaf::Context(*ctx)),
         ),
         Expr::Name { id, ctx } => Node::two(
             Class::Name,
-            Part::Leaf(Leaf::Name(id)),
-            Part::Leaf(Leaf::Context(*ctx)),
+            Held::Leaf(Leaf::Name(id)),
+            Held::Leaf(Leaf::Context(*ctx)),
         ),
         Expr::List { elts, ctx } => Node::two(
             Class::List,
-            Part::Row(Row::Exprs(elts)),
-            Part::Leaf(Leaf::Context(*ctx)),
+            Held::Row(Row::Exprs(elts)),
+            Held::Leaf(Leaf::Context(*ctx)),
         ),
         Expr::Tuple { elts, ctx } => Node::two(
             Class::Tuple,
-            Part::Row(Row::Exprs(elts)),
-            Part::Leaf(Leaf::Context(*ctx)),
+            Held::Row(Row::Exprs(elts)),
+            Held::Leaf(Leaf::Context(*ctx)),
         ),
         Expr::Slice(slice) => slice_node(slice),
     }
 }
 
 /// The field of an expression that may be absent.
-pub(crate) fn boxed_part<'a>(e: &'a Option<Box<Expr>>) -> Part<'a>
+pub(crate) fn boxed_held<'a>(e: &'a Option<Box<Expr>>) -> Held<'a>
     ensures { (version : AnyVersion) → (rest : Things)
-        → with_part version result rest ≡ optional_field (optional (boxed_of e.now)) rest }
+        → with_held version result rest ≡ optional_field (optional (boxed_of e.now)) rest }
 {
     match e {
-        None => Part::LeftOut,
-        Some(e) => Part::Expr(e),
+        None => Held::LeftOut,
+        Some(e) => Held::Expr(e),
     }
 }
 
 /// The field of a constant's kind, which most constants don't have.
-fn kind_part<'a>(value: &Constant) -> Part<'a>
+fn kind_held<'a>(value: &Constant) -> Held<'a>
     ensures { (version : AnyVersion) → (rest : Things)
-        → with_part version result rest ≡ kind_field (constant_of value.now) rest }
+        → with_held version result rest ≡ kind_field (constant_of value.now) rest }
 {
     match value {
-        Constant::UnicodeStr(_) => Part::Leaf(Leaf::Kind),
-        _ => Part::LeftOut,
+        Constant::UnicodeStr(_) => Held::Leaf(Leaf::Kind),
+        _ => Held::LeftOut,
     }
 }
 
@@ -162,8 +162,8 @@ fn dict_node<'a>(dict: &'a Dict) -> Node<'a>
 {
     Node::two(
         Class::Dict,
-        Part::Row(Row::Options(&dict.keys)),
-        Part::Row(Row::Exprs(&dict.values)),
+        Held::Row(Row::Options(&dict.keys)),
+        Held::Row(Row::Exprs(&dict.values)),
     )
 }
 
@@ -176,9 +176,9 @@ fn dict_comp_node<'a>(comp: &'a DictComp) -> Node<'a>
 {
     Node::three(
         Class::DictComp,
-        Part::Expr(&comp.key),
-        Part::Expr(&comp.value),
-        Part::Row(Row::Comprehensions(&comp.generators)),
+        Held::Expr(&comp.key),
+        Held::Expr(&comp.value),
+        Held::Row(Row::Comprehensions(&comp.generators)),
     )
 }
 
@@ -191,9 +191,9 @@ fn compare_node<'a>(compare: &'a Compare) -> Node<'a>
 {
     Node::three(
         Class::Compare,
-        Part::Expr(&compare.left),
-        Part::Row(Row::Comparisons(&compare.ops)),
-        Part::Row(Row::Exprs(&compare.comparators)),
+        Held::Expr(&compare.left),
+        Held::Row(Row::Comparisons(&compare.ops)),
+        Held::Row(Row::Exprs(&compare.comparators)),
     )
 }
 
@@ -206,9 +206,9 @@ fn call_node<'a>(call: &'a Call) -> Node<'a>
 {
     Node::three(
         Class::Call,
-        Part::Expr(&call.func),
-        Part::Row(Row::Exprs(&call.args)),
-        Part::Row(Row::Keywords(&call.keywords)),
+        Held::Expr(&call.func),
+        Held::Row(Row::Exprs(&call.args)),
+        Held::Row(Row::Keywords(&call.keywords)),
     )
 }
 
@@ -221,8 +221,8 @@ fn slice_node<'a>(slice: &'a Slice) -> Node<'a>
 {
     Node::three(
         Class::Slice,
-        boxed_part(&slice.lower),
-        boxed_part(&slice.upper),
-        boxed_part(&slice.step),
+        boxed_held(&slice.lower),
+        boxed_held(&slice.upper),
+        boxed_held(&slice.step),
     )
 }

@@ -4,21 +4,21 @@
 //! `specs/Classes` the names of classes and fields.
 #![tactic(auto)]
 
+mod children;
 mod classes;
-mod elements;
 mod expressions;
+mod held;
 mod leaves;
 mod members;
 mod nodes;
-mod parts;
 mod patterns;
 mod rows;
 mod statements;
 
+pub use children::Child;
 pub use classes::Class;
-pub use elements::Element;
+pub use held::Held;
 pub use leaves::Leaf;
 pub use members::module_node;
 pub use nodes::Node;
-pub use parts::Part;
 pub use rows::Row;

@@ -6,16 +6,16 @@ ghost use Rattle.pytree_node.specs.Trees.{optional_arg};
 ghost use Rattle.pytree_node.specs.TreeOf.{alias_of, arg_of, arg_option_of, arguments_of, case_of, comprehension_of};
 ghost use Rattle.pytree_node.specs.TreeOf.{handler_of, item_of, keyword_of, module_of, option_of, type_param_of};
 ghost use Rattle.pytree_fields.specs.Classes.{field_count};
-ghost use Rattle.pytree_fields.specs.Parts.{node_thing, with_part};
+ghost use Rattle.pytree_fields.specs.LentThings.{node_thing, with_held};
 ghost use Rattle.pytree_fields.specs.Things.{Things, alias_thing, arg_field, arg_thing, arguments_thing, case_thing};
 ghost use Rattle.pytree_fields.specs.Things.{comprehension_thing, expr_field, handler_thing, item_thing, keyword_thing};
 ghost use Rattle.pytree_fields.specs.Things.{module_thing, name_field, type_param_thing};
 
 use crate::classes::Class;
-use crate::expressions::boxed_part;
+use crate::expressions::boxed_held;
+use crate::held::Held;
 use crate::leaves::Leaf;
 use crate::nodes::Node;
-use crate::parts::Part;
 use crate::rows::Row;
 use pytree_node::{
     Alias, Arg, Arguments, Case, Comprehension, Expr, Handler, Identifier, Item, Keyword, Module,
@@ -23,35 +23,35 @@ use pytree_node::{
 };
 
 /// The field of an expression that may be absent, where it is in no box.
-pub(crate) fn option_part<'a>(e: &'a Option<Expr>) -> Part<'a>
+pub(crate) fn option_held<'a>(e: &'a Option<Expr>) -> Held<'a>
     ensures { (version : AnyVersion) → (rest : Things)
-        → with_part version result rest ≡ expr_field (option_of e.now) rest }
+        → with_held version result rest ≡ expr_field (option_of e.now) rest }
 {
     match e {
-        None => Part::LeftOut,
-        Some(e) => Part::Expr(e),
+        None => Held::LeftOut,
+        Some(e) => Held::Expr(e),
     }
 }
 
 /// The field of a name that may be absent.
-pub(crate) fn name_part<'a>(name: &'a Option<Identifier>) -> Part<'a>
+pub(crate) fn name_held<'a>(name: &'a Option<Identifier>) -> Held<'a>
     ensures { (version : AnyVersion) → (rest : Things)
-        → with_part version result rest ≡ name_field name.now rest }
+        → with_held version result rest ≡ name_field name.now rest }
 {
     match name {
-        None => Part::LeftOut,
-        Some(name) => Part::Leaf(Leaf::Name(name)),
+        None => Held::LeftOut,
+        Some(name) => Held::Leaf(Leaf::Name(name)),
     }
 }
 
 /// The field of a parameter that may be absent.
-fn arg_part<'a>(a: &'a Option<Arg>) -> Part<'a>
+fn arg_held<'a>(a: &'a Option<Arg>) -> Held<'a>
     ensures { (version : AnyVersion) → (rest : Things)
-        → with_part version result rest ≡ arg_field (optional_arg (arg_option_of a.now)) rest }
+        → with_held version result rest ≡ arg_field (optional_arg (arg_option_of a.now)) rest }
 {
     match a {
-        None => Part::LeftOut,
-        Some(a) => Part::Arg(a),
+        None => Held::LeftOut,
+        Some(a) => Held::Arg(a),
     }
 }
 
@@ -64,10 +64,10 @@ pub(crate) fn comprehension_node<'a>(c: &'a Comprehension) -> Node<'a>
 {
     Node::four(
         Class::Comprehension,
-        Part::Expr(&c.target),
-        Part::Expr(&c.iter),
-        Part::Row(Row::Exprs(&c.ifs)),
-        Part::Leaf(Leaf::Flag(c.is_async)),
+        Held::Expr(&c.target),
+        Held::Expr(&c.iter),
+        Held::Row(Row::Exprs(&c.ifs)),
+        Held::Leaf(Leaf::Flag(c.is_async)),
     )
 }
 
@@ -78,7 +78,7 @@ pub(crate) fn keyword_node<'a>(k: &'a Keyword) -> Node<'a>
     ensures len { result.len ≡ field_count result.class }
     ensures room { result.len ≤ 7 }
 {
-    Node::two(Class::Keyword, name_part(&k.arg), Part::Expr(&k.value))
+    Node::two(Class::Keyword, name_held(&k.arg), Held::Expr(&k.value))
 }
 
 /// The node of a parameter.
@@ -90,9 +90,9 @@ pub(crate) fn arg_node<'a>(a: &'a Arg) -> Node<'a>
 {
     Node::three(
         Class::Arg,
-        Part::Leaf(Leaf::Name(&a.arg)),
-        boxed_part(&a.annotation),
-        Part::LeftOut,
+        Held::Leaf(Leaf::Name(&a.arg)),
+        boxed_held(&a.annotation),
+        Held::LeftOut,
     )
 }
 
@@ -105,13 +105,13 @@ pub(crate) fn arguments_node<'a>(a: &'a Arguments) -> Node<'a>
 {
     Node::seven(
         Class::Arguments,
-        Part::Row(Row::Args(&a.posonlyargs)),
-        Part::Row(Row::Args(&a.args)),
-        arg_part(&a.vararg),
-        Part::Row(Row::Args(&a.kwonlyargs)),
-        Part::Row(Row::Options(&a.kw_defaults)),
-        arg_part(&a.kwarg),
-        Part::Row(Row::Exprs(&a.defaults)),
+        Held::Row(Row::Args(&a.posonlyargs)),
+        Held::Row(Row::Args(&a.args)),
+        arg_held(&a.vararg),
+        Held::Row(Row::Args(&a.kwonlyargs)),
+        Held::Row(Row::Options(&a.kw_defaults)),
+        arg_held(&a.kwarg),
+        Held::Row(Row::Exprs(&a.defaults)),
     )
 }
 
@@ -123,8 +123,8 @@ pub(crate) fn alias_node<'a>(a: &'a Alias) -> Node<'a>
 {
     Node::two(
         Class::Alias,
-        Part::Leaf(Leaf::Name(&a.name)),
-        name_part(&a.asname),
+        Held::Leaf(Leaf::Name(&a.name)),
+        name_held(&a.asname),
     )
 }
 
@@ -136,8 +136,8 @@ pub(crate) fn item_node<'a>(item: &'a Item) -> Node<'a>
 {
     Node::two(
         Class::WithItem,
-        Part::Expr(&item.context_expr),
-        option_part(&item.optional_vars),
+        Held::Expr(&item.context_expr),
+        option_held(&item.optional_vars),
     )
 }
 
@@ -150,13 +150,13 @@ pub(crate) fn type_param_node<'a>(p: &'a TypeParam) -> Node<'a>
     match p {
         TypeParam::TypeVar { name, bound } => Node::two(
             Class::TypeVar,
-            Part::Leaf(Leaf::Name(name)),
-            option_part(bound),
+            Held::Leaf(Leaf::Name(name)),
+            option_held(bound),
         ),
-        TypeParam::ParamSpec { name } => Node::one(Class::ParamSpec, Part::Leaf(Leaf::Name(name))),
+        TypeParam::ParamSpec { name } => Node::one(Class::ParamSpec, Held::Leaf(Leaf::Name(name))),
         TypeParam::TypeVarTuple { name } => Node::one(
             Class::TypeVarTuple,
-            Part::Leaf(Leaf::Name(name)),
+            Held::Leaf(Leaf::Name(name)),
         ),
     }
 }
@@ -170,9 +170,9 @@ pub(crate) fn handler_node<'a>(h: &'a Handler) -> Node<'a>
 {
     Node::three(
         Class::ExceptHandler,
-        option_part(&h.class),
-        name_part(&h.name),
-        Part::Row(Row::Stmts(&h.body)),
+        option_held(&h.class),
+        name_held(&h.name),
+        Held::Row(Row::Stmts(&h.body)),
     )
 }
 
@@ -185,9 +185,9 @@ pub(crate) fn case_node<'a>(c: &'a Case) -> Node<'a>
 {
     Node::three(
         Class::MatchCase,
-        Part::Pattern(&c.pattern),
-        option_part(&c.guard),
-        Part::Row(Row::Stmts(&c.body)),
+        Held::Pattern(&c.pattern),
+        option_held(&c.guard),
+        Held::Row(Row::Stmts(&c.body)),
     )
 }
 
@@ -199,7 +199,7 @@ pub fn module_node<'a>(m: &'a Module) -> Node<'a>
 {
     Node::two(
         Class::Module,
-        Part::Row(Row::Stmts(&m.body)),
-        Part::Row(Row::TypeIgnores),
+        Held::Row(Row::Stmts(&m.body)),
+        Held::Row(Row::TypeIgnores),
     )
 }

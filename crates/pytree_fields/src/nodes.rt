@@ -2,18 +2,18 @@
 
 ghost use Rattle.std.specs.Prelude.{◌≡◌, ◌≤◌};
 ghost use Rattle.pytree_node.specs.declared.profiles.Version.{Version};
-ghost use Rattle.pytree_fields.specs.Parts.{node_thing, with_part};
+ghost use Rattle.pytree_fields.specs.LentThings.{node_thing, with_held};
 ghost use Rattle.pytree_fields.specs.Things.{Node as NodeThing, no_thing};
 
 use crate::classes::Class;
-use crate::parts::Part;
+use crate::held::Held;
 
 /// A node: its class and what its fields hold.
 #[derive(Clone, Copy)]
 pub struct Node<'a> {
     pub class: Class,
     /// What its fields hold, which come first, and others that don't count.
-    pub parts: [Part<'a>; 7],
+    pub held: [Held<'a>; 7],
     /// How many fields it has.
     pub len: usize,
 }
@@ -28,14 +28,14 @@ impl<'a> Node<'a> {
     {
         Node {
             class,
-            parts: [
-                Part::LeftOut,
-                Part::LeftOut,
-                Part::LeftOut,
-                Part::LeftOut,
-                Part::LeftOut,
-                Part::LeftOut,
-                Part::LeftOut,
+            held: [
+                Held::LeftOut,
+                Held::LeftOut,
+                Held::LeftOut,
+                Held::LeftOut,
+                Held::LeftOut,
+                Held::LeftOut,
+                Held::LeftOut,
             ],
             len: 0,
         }
@@ -43,21 +43,21 @@ impl<'a> Node<'a> {
 
     /// A node of one field.
     #[inline(always)]
-    pub(crate) fn one(class: Class, a: Part<'a>) -> Node<'a>
-        ensures thing { (version : Version) → node_thing version result ≡ NodeThing class (with_part version a.entry no_thing) }
+    pub(crate) fn one(class: Class, a: Held<'a>) -> Node<'a>
+        ensures thing { (version : Version) → node_thing version result ≡ NodeThing class (with_held version a.entry no_thing) }
         ensures class { result.class ≡ class }
         ensures len { result.len ≡ 1 }
     {
         Node {
             class,
-            parts: [
+            held: [
                 a,
-                Part::LeftOut,
-                Part::LeftOut,
-                Part::LeftOut,
-                Part::LeftOut,
-                Part::LeftOut,
-                Part::LeftOut,
+                Held::LeftOut,
+                Held::LeftOut,
+                Held::LeftOut,
+                Held::LeftOut,
+                Held::LeftOut,
+                Held::LeftOut,
             ],
             len: 1,
         }
@@ -65,21 +65,21 @@ impl<'a> Node<'a> {
 
     /// A node of two fields.
     #[inline(always)]
-    pub(crate) fn two(class: Class, a: Part<'a>, b: Part<'a>) -> Node<'a>
-        ensures thing { (version : Version) → node_thing version result ≡ NodeThing class (with_part version a.entry (with_part version b.entry no_thing)) }
+    pub(crate) fn two(class: Class, a: Held<'a>, b: Held<'a>) -> Node<'a>
+        ensures thing { (version : Version) → node_thing version result ≡ NodeThing class (with_held version a.entry (with_held version b.entry no_thing)) }
         ensures class { result.class ≡ class }
         ensures len { result.len ≡ 2 }
     {
         Node {
             class,
-            parts: [
+            held: [
                 a,
                 b,
-                Part::LeftOut,
-                Part::LeftOut,
-                Part::LeftOut,
-                Part::LeftOut,
-                Part::LeftOut,
+                Held::LeftOut,
+                Held::LeftOut,
+                Held::LeftOut,
+                Held::LeftOut,
+                Held::LeftOut,
             ],
             len: 2,
         }
@@ -87,21 +87,21 @@ impl<'a> Node<'a> {
 
     /// A node of three fields.
     #[inline(always)]
-    pub(crate) fn three(class: Class, a: Part<'a>, b: Part<'a>, c: Part<'a>) -> Node<'a>
-        ensures thing { (version : Version) → node_thing version result ≡ NodeThing class (with_part version a.entry (with_part version b.entry (with_part version c.entry no_thing))) }
+    pub(crate) fn three(class: Class, a: Held<'a>, b: Held<'a>, c: Held<'a>) -> Node<'a>
+        ensures thing { (version : Version) → node_thing version result ≡ NodeThing class (with_held version a.entry (with_held version b.entry (with_held version c.entry no_thing))) }
         ensures class { result.class ≡ class }
         ensures len { result.len ≡ 3 }
     {
         Node {
             class,
-            parts: [
+            held: [
                 a,
                 b,
                 c,
-                Part::LeftOut,
-                Part::LeftOut,
-                Part::LeftOut,
-                Part::LeftOut,
+                Held::LeftOut,
+                Held::LeftOut,
+                Held::LeftOut,
+                Held::LeftOut,
             ],
             len: 3,
         }
@@ -109,14 +109,14 @@ impl<'a> Node<'a> {
 
     /// A node of four fields.
     #[inline(always)]
-    pub(crate) fn four(class: Class, a: Part<'a>, b: Part<'a>, c: Part<'a>, d: Part<'a>) -> Node<'a>
-        ensures thing { (version : Version) → node_thing version result ≡ NodeThing class (with_part version a.entry (with_part version b.entry (with_part version c.entry (with_part version d.entry no_thing)))) }
+    pub(crate) fn four(class: Class, a: Held<'a>, b: Held<'a>, c: Held<'a>, d: Held<'a>) -> Node<'a>
+        ensures thing { (version : Version) → node_thing version result ≡ NodeThing class (with_held version a.entry (with_held version b.entry (with_held version c.entry (with_held version d.entry no_thing)))) }
         ensures class { result.class ≡ class }
         ensures len { result.len ≡ 4 }
     {
         Node {
             class,
-            parts: [a, b, c, d, Part::LeftOut, Part::LeftOut, Part::LeftOut],
+            held: [a, b, c, d, Held::LeftOut, Held::LeftOut, Held::LeftOut],
             len: 4,
         }
     }
@@ -125,19 +125,19 @@ impl<'a> Node<'a> {
     #[inline(always)]
     pub(crate) fn five(
         class: Class,
-        a: Part<'a>,
-        b: Part<'a>,
-        c: Part<'a>,
-        d: Part<'a>,
-        e: Part<'a>,
+        a: Held<'a>,
+        b: Held<'a>,
+        c: Held<'a>,
+        d: Held<'a>,
+        e: Held<'a>,
     ) -> Node<'a>
-        ensures thing { (version : Version) → node_thing version result ≡ NodeThing class (with_part version a.entry (with_part version b.entry (with_part version c.entry (with_part version d.entry (with_part version e.entry no_thing))))) }
+        ensures thing { (version : Version) → node_thing version result ≡ NodeThing class (with_held version a.entry (with_held version b.entry (with_held version c.entry (with_held version d.entry (with_held version e.entry no_thing))))) }
         ensures class { result.class ≡ class }
         ensures len { result.len ≡ 5 }
     {
         Node {
             class,
-            parts: [a, b, c, d, e, Part::LeftOut, Part::LeftOut],
+            held: [a, b, c, d, e, Held::LeftOut, Held::LeftOut],
             len: 5,
         }
     }
@@ -146,20 +146,20 @@ impl<'a> Node<'a> {
     #[inline(always)]
     pub(crate) fn six(
         class: Class,
-        a: Part<'a>,
-        b: Part<'a>,
-        c: Part<'a>,
-        d: Part<'a>,
-        e: Part<'a>,
-        f: Part<'a>,
+        a: Held<'a>,
+        b: Held<'a>,
+        c: Held<'a>,
+        d: Held<'a>,
+        e: Held<'a>,
+        f: Held<'a>,
     ) -> Node<'a>
-        ensures thing { (version : Version) → node_thing version result ≡ NodeThing class (with_part version a.entry (with_part version b.entry (with_part version c.entry (with_part version d.entry (with_part version e.entry (with_part version f.entry no_thing)))))) }
+        ensures thing { (version : Version) → node_thing version result ≡ NodeThing class (with_held version a.entry (with_held version b.entry (with_held version c.entry (with_held version d.entry (with_held version e.entry (with_held version f.entry no_thing)))))) }
         ensures class { result.class ≡ class }
         ensures len { result.len ≡ 6 }
     {
         Node {
             class,
-            parts: [a, b, c, d, e, f, Part::LeftOut],
+            held: [a, b, c, d, e, f, Held::LeftOut],
             len: 6,
         }
     }
@@ -168,21 +168,21 @@ impl<'a> Node<'a> {
     #[inline(always)]
     pub(crate) fn seven(
         class: Class,
-        a: Part<'a>,
-        b: Part<'a>,
-        c: Part<'a>,
-        d: Part<'a>,
-        e: Part<'a>,
-        f: Part<'a>,
-        g: Part<'a>,
+        a: Held<'a>,
+        b: Held<'a>,
+        c: Held<'a>,
+        d: Held<'a>,
+        e: Held<'a>,
+        f: Held<'a>,
+        g: Held<'a>,
     ) -> Node<'a>
-        ensures thing { (version : Version) → node_thing version result ≡ NodeThing class (with_part version a.entry (with_part version b.entry (with_part version c.entry (with_part version d.entry (with_part version e.entry (with_part version f.entry (with_part version g.entry no_thing))))))) }
+        ensures thing { (version : Version) → node_thing version result ≡ NodeThing class (with_held version a.entry (with_held version b.entry (with_held version c.entry (with_held version d.entry (with_held version e.entry (with_held version f.entry (with_held version g.entry no_thing))))))) }
         ensures class { result.class ≡ class }
         ensures len { result.len ≡ 7 }
     {
         Node {
             class,
-            parts: [a, b, c, d, e, f, g],
+            held: [a, b, c, d, e, f, g],
             len: 7,
         }
     }

@@ -5,14 +5,14 @@ ghost use Rattle.pytree_node.specs.declared.profiles.Version.{Version as AnyVers
 ghost use Rattle.pytree_node.specs.Trees.{optional_pattern};
 ghost use Rattle.pytree_node.specs.TreeOf.{boxed_pattern_of, pattern_of};
 ghost use Rattle.pytree_fields.specs.Classes.{field_count};
-ghost use Rattle.pytree_fields.specs.Parts.{node_thing, with_part};
+ghost use Rattle.pytree_fields.specs.LentThings.{node_thing, with_held};
 ghost use Rattle.pytree_fields.specs.Things.{Things, pattern_field, pattern_thing};
 
 use crate::classes::Class;
+use crate::held::Held;
 use crate::leaves::Leaf;
-use crate::members::name_part;
+use crate::members::name_held;
 use crate::nodes::Node;
-use crate::parts::Part;
 use crate::rows::Row;
 use pytree_node::Pattern;
 
@@ -24,14 +24,14 @@ pub(crate) fn pattern_node<'a>(p: &'a Pattern) -> Node<'a>
     ensures room { result.len ≤ 7 }
 {
     match p {
-        Pattern::MatchValue { value } => Node::one(Class::MatchValue, Part::Expr(value)),
+        Pattern::MatchValue { value } => Node::one(Class::MatchValue, Held::Expr(value)),
         Pattern::MatchSingleton { value } => Node::one(
             Class::MatchSingleton,
-            Part::Leaf(Leaf::Singleton(value)),
+            Held::Leaf(Leaf::Singleton(value)),
         ),
         Pattern::MatchSequence { patterns } => Node::one(
             Class::MatchSequence,
-            Part::Row(Row::Patterns(patterns)),
+            Held::Row(Row::Patterns(patterns)),
         ),
         Pattern::MatchMapping {
             keys,
@@ -39,9 +39,9 @@ pub(crate) fn pattern_node<'a>(p: &'a Pattern) -> Node<'a>
             rest,
         } => Node::three(
             Class::MatchMapping,
-            Part::Row(Row::Exprs(keys)),
-            Part::Row(Row::Patterns(patterns)),
-            name_part(rest),
+            Held::Row(Row::Exprs(keys)),
+            Held::Row(Row::Patterns(patterns)),
+            name_held(rest),
         ),
         Pattern::MatchClass {
             cls,
@@ -50,31 +50,31 @@ pub(crate) fn pattern_node<'a>(p: &'a Pattern) -> Node<'a>
             kwd_patterns,
         } => Node::four(
             Class::MatchClass,
-            Part::Expr(cls),
-            Part::Row(Row::Patterns(patterns)),
-            Part::Row(Row::Names(kwd_attrs)),
-            Part::Row(Row::Patterns(kwd_patterns)),
+            Held::Expr(cls),
+            Held::Row(Row::Patterns(patterns)),
+            Held::Row(Row::Names(kwd_attrs)),
+            Held::Row(Row::Patterns(kwd_patterns)),
         ),
-        Pattern::MatchStar { name } => Node::one(Class::MatchStar, name_part(name)),
+        Pattern::MatchStar { name } => Node::one(Class::MatchStar, name_held(name)),
         Pattern::MatchAs { pattern, name } => Node::two(
             Class::MatchAs,
-            pattern_part(pattern),
-            name_part(name),
+            pattern_held(pattern),
+            name_held(name),
         ),
         Pattern::MatchOr { patterns } => Node::one(
             Class::MatchOr,
-            Part::Row(Row::Patterns(patterns)),
+            Held::Row(Row::Patterns(patterns)),
         ),
     }
 }
 
 /// The field of a pattern that may be absent.
-fn pattern_part<'a>(p: &'a Option<Box<Pattern>>) -> Part<'a>
+fn pattern_held<'a>(p: &'a Option<Box<Pattern>>) -> Held<'a>
     ensures { (version : AnyVersion) → (rest : Things)
-        → with_part version result rest ≡ pattern_field (optional_pattern (boxed_pattern_of p.now)) rest }
+        → with_held version result rest ≡ pattern_field (optional_pattern (boxed_pattern_of p.now)) rest }
 {
     match p {
-        None => Part::LeftOut,
-        Some(p) => Part::Pattern(p),
+        None => Held::LeftOut,
+        Some(p) => Held::Pattern(p),
     }
 }

@@ -2,10 +2,10 @@
 
 ghost use Rattle.std.specs.Prelude.{◌≡◌, ◌<◌, Some};
 ghost use Rattle.pytree_node.specs.declared.profiles.Version.{Version as AnyVersion};
-ghost use Rattle.pytree_fields.specs.Parts.{element_thing, row_things, row_len};
-ghost use Rattle.pytree_fields.specs.Things.{part_at};
+ghost use Rattle.pytree_fields.specs.LentThings.{child_thing, row_things, row_len};
+ghost use Rattle.pytree_fields.specs.Things.{thing_at};
 
-use crate::elements::Element;
+use crate::children::Child;
 use crate::leaves::Leaf;
 use pytree_node::{
     Alias, Arg, Case, Comparison, Comprehension, Expr, Handler, Identifier, Item, Keyword, Pattern,
@@ -60,31 +60,31 @@ impl<'a> Row<'a> {
 
     /// One of its elements.
     #[tactic(auto, using(crate::proofs::RowLemmas::rows))]
-    pub fn get(self, index: usize) -> Element<'a>
+    pub fn get(self, index: usize) -> Child<'a>
         requires { index < row_len self }
         ensures { (version : AnyVersion)
-            → Some (element_thing version result) ≡ part_at (row_things version self.entry) index }
+            → Some (child_thing version result) ≡ thing_at (row_things version self.entry) index }
     {
         match self {
-            Row::Exprs(all) => Element::Expr(&all[index]),
+            Row::Exprs(all) => Child::Expr(&all[index]),
             Row::Options(all) => match &all[index] {
-                None => Element::Leaf(Leaf::None),
-                Some(e) => Element::Expr(e),
+                None => Child::Leaf(Leaf::None),
+                Some(e) => Child::Expr(e),
             },
-            Row::Patterns(all) => Element::Pattern(&all[index]),
-            Row::Stmts(all) => Element::Stmt(&all[index]),
-            Row::Handlers(all) => Element::Handler(&all[index]),
-            Row::Cases(all) => Element::Case(&all[index]),
-            Row::Comprehensions(all) => Element::Comprehension(&all[index]),
-            Row::Args(all) => Element::Arg(&all[index]),
-            Row::Keywords(all) => Element::Keyword(&all[index]),
-            Row::Aliases(all) => Element::Alias(&all[index]),
-            Row::Items(all) => Element::Item(&all[index]),
-            Row::TypeParams(all) => Element::TypeParam(&all[index]),
-            Row::Comparisons(all) => Element::Leaf(Leaf::Comparison(all[index])),
-            Row::Names(all) => Element::Leaf(Leaf::Name(&all[index])),
+            Row::Patterns(all) => Child::Pattern(&all[index]),
+            Row::Stmts(all) => Child::Stmt(&all[index]),
+            Row::Handlers(all) => Child::Handler(&all[index]),
+            Row::Cases(all) => Child::Case(&all[index]),
+            Row::Comprehensions(all) => Child::Comprehension(&all[index]),
+            Row::Args(all) => Child::Arg(&all[index]),
+            Row::Keywords(all) => Child::Keyword(&all[index]),
+            Row::Aliases(all) => Child::Alias(&all[index]),
+            Row::Items(all) => Child::Item(&all[index]),
+            Row::TypeParams(all) => Child::TypeParam(&all[index]),
+            Row::Comparisons(all) => Child::Leaf(Leaf::Comparison(all[index])),
+            Row::Names(all) => Child::Leaf(Leaf::Name(&all[index])),
             // Not asked for, as it has no element.
-            Row::TypeIgnores => Element::Leaf(Leaf::None),
+            Row::TypeIgnores => Child::Leaf(Leaf::None),
         }
     }
 }

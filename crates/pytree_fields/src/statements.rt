@@ -5,14 +5,14 @@ ghost use Rattle.pytree_node.specs.declared.profiles.Version.{Version as AnyVers
 ghost use Rattle.pytree_node.specs.Trees.{async_function_def, function_def, try_block, try_star_block};
 ghost use Rattle.pytree_node.specs.TreeOf.{boxed_of, class_def_of, function_def_of, stmt_of, try_of, type_param_of};
 ghost use Rattle.pytree_fields.specs.Classes.{field_count};
-ghost use Rattle.pytree_fields.specs.Parts.{node_thing, with_part};
+ghost use Rattle.pytree_fields.specs.LentThings.{node_thing, with_held};
 ghost use Rattle.pytree_fields.specs.Things.{Things, expr_field, no_thing, stmt_thing, type_params_field};
 
 use crate::classes::Class;
+use crate::held::Held;
 use crate::leaves::Leaf;
-use crate::members::{name_part, option_part};
+use crate::members::{name_held, option_held};
 use crate::nodes::Node;
-use crate::parts::Part;
 use crate::rows::Row;
 use pytree_node::{ClassDef, Expr, FunctionDef, Stmt, Try, TypeParam, Version};
 
@@ -27,13 +27,13 @@ pub(crate) fn stmt_node<'a>(version: Version, s: &'a Stmt) -> Node<'a>
         Stmt::FunctionDef(def) => function_node(version, def),
         Stmt::AsyncFunctionDef(def) => async_function_node(version, def),
         Stmt::ClassDef(class) => class_node(version, class),
-        Stmt::Return { value } => Node::one(Class::Return, option_part(value)),
-        Stmt::Delete { targets } => Node::one(Class::Delete, Part::Row(Row::Exprs(targets))),
+        Stmt::Return { value } => Node::one(Class::Return, option_held(value)),
+        Stmt::Delete { targets } => Node::one(Class::Delete, Held::Row(Row::Exprs(targets))),
         Stmt::Assign { targets, value } => Node::three(
             Class::Assign,
-            Part::Row(Row::Exprs(targets)),
-            Part::Expr(value),
-            Part::LeftOut,
+            Held::Row(Row::Exprs(targets)),
+            Held::Expr(value),
+            Held::LeftOut,
         ),
         Stmt::TypeAlias {
             name,
@@ -41,15 +41,15 @@ pub(crate) fn stmt_node<'a>(version: Version, s: &'a Stmt) -> Node<'a>
             value,
         } => Node::three(
             Class::TypeAlias,
-            Part::Expr(name),
-            Part::Row(Row::TypeParams(type_params)),
-            Part::Expr(value),
+            Held::Expr(name),
+            Held::Row(Row::TypeParams(type_params)),
+            Held::Expr(value),
         ),
         Stmt::AugAssign { target, op, value } => Node::three(
             Class::AugAssign,
-            Part::Expr(target),
-            Part::Leaf(Leaf::Operator(*op)),
-            Part::Expr(value),
+            Held::Expr(target),
+            Held::Leaf(Leaf::Operator(*op)),
+            Held::Expr(value),
         ),
         Stmt::AnnAssign {
             target,
@@ -58,10 +58,10 @@ pub(crate) fn stmt_node<'a>(version: Version, s: &'a Stmt) -> Node<'a>
             simple,
         } => Node::four(
             Class::AnnAssign,
-            Part::Expr(target),
-            Part::Expr(annotation),
-            boxed_part(value),
-            Part::Leaf(Leaf::Flag(*simple)),
+            Held::Expr(target),
+            Held::Expr(annotation),
+            boxed_held(value),
+            Held::Leaf(Leaf::Flag(*simple)),
         ),
         Stmt::For {
             target,
@@ -70,11 +70,11 @@ pub(crate) fn stmt_node<'a>(version: Version, s: &'a Stmt) -> Node<'a>
             orelse,
         } => Node::five(
             Class::For,
-            Part::Expr(target),
-            Part::Expr(iter),
-            Part::Row(Row::Stmts(body)),
-            Part::Row(Row::Stmts(orelse)),
-            Part::LeftOut,
+            Held::Expr(target),
+            Held::Expr(iter),
+            Held::Row(Row::Stmts(body)),
+            Held::Row(Row::Stmts(orelse)),
+            Held::LeftOut,
         ),
         Stmt::AsyncFor {
             target,
@@ -83,59 +83,59 @@ pub(crate) fn stmt_node<'a>(version: Version, s: &'a Stmt) -> Node<'a>
             orelse,
         } => Node::five(
             Class::AsyncFor,
-            Part::Expr(target),
-            Part::Expr(iter),
-            Part::Row(Row::Stmts(body)),
-            Part::Row(Row::Stmts(orelse)),
-            Part::LeftOut,
+            Held::Expr(target),
+            Held::Expr(iter),
+            Held::Row(Row::Stmts(body)),
+            Held::Row(Row::Stmts(orelse)),
+            Held::LeftOut,
         ),
         Stmt::While { test, body, orelse } => Node::three(
             Class::While,
-            Part::Expr(test),
-            Part::Row(Row::Stmts(body)),
-            Part::Row(Row::Stmts(orelse)),
+            Held::Expr(test),
+            Held::Row(Row::Stmts(body)),
+            Held::Row(Row::Stmts(orelse)),
         ),
         Stmt::If { test, body, orelse } => Node::three(
             Class::If,
-            Part::Expr(test),
-            Part::Row(Row::Stmts(body)),
-            Part::Row(Row::Stmts(orelse)),
+            Held::Expr(test),
+            Held::Row(Row::Stmts(body)),
+            Held::Row(Row::Stmts(orelse)),
         ),
         Stmt::With { items, body } => Node::three(
             Class::With,
-            Part::Row(Row::Items(items)),
-            Part::Row(Row::Stmts(body)),
-            Part::LeftOut,
+            Held::Row(Row::Items(items)),
+            Held::Row(Row::Stmts(body)),
+            Held::LeftOut,
         ),
         Stmt::AsyncWith { items, body } => Node::three(
             Class::AsyncWith,
-            Part::Row(Row::Items(items)),
-            Part::Row(Row::Stmts(body)),
-            Part::LeftOut,
+            Held::Row(Row::Items(items)),
+            Held::Row(Row::Stmts(body)),
+            Held::LeftOut,
         ),
         Stmt::Match { subject, cases } => Node::two(
             Class::Match,
-            Part::Expr(subject),
-            Part::Row(Row::Cases(cases)),
+            Held::Expr(subject),
+            Held::Row(Row::Cases(cases)),
         ),
-        Stmt::Raise { exc, cause } => Node::two(Class::Raise, boxed_part(exc), boxed_part(cause)),
-        Stmt::Try(parts) => try_node(parts),
-        Stmt::TryStar(parts) => try_star_node(parts),
-        Stmt::Assert { test, msg } => Node::two(Class::Assert, Part::Expr(test), boxed_part(msg)),
-        Stmt::Import { names } => Node::one(Class::Import, Part::Row(Row::Aliases(names))),
+        Stmt::Raise { exc, cause } => Node::two(Class::Raise, boxed_held(exc), boxed_held(cause)),
+        Stmt::Try(held) => try_node(held),
+        Stmt::TryStar(held) => try_star_node(held),
+        Stmt::Assert { test, msg } => Node::two(Class::Assert, Held::Expr(test), boxed_held(msg)),
+        Stmt::Import { names } => Node::one(Class::Import, Held::Row(Row::Aliases(names))),
         Stmt::ImportFrom {
             module,
             names,
             level,
         } => Node::three(
             Class::ImportFrom,
-            name_part(module),
-            Part::Row(Row::Aliases(names)),
-            Part::Leaf(Leaf::Number(*level)),
+            name_held(module),
+            Held::Row(Row::Aliases(names)),
+            Held::Leaf(Leaf::Number(*level)),
         ),
-        Stmt::Global { names } => Node::one(Class::Global, Part::Row(Row::Names(names))),
-        Stmt::Nonlocal { names } => Node::one(Class::Nonlocal, Part::Row(Row::Names(names))),
-        Stmt::Expr { value } => Node::one(Class::Expr, Part::Expr(value)),
+        Stmt::Global { names } => Node::one(Class::Global, Held::Row(Row::Names(names))),
+        Stmt::Nonlocal { names } => Node::one(Class::Nonlocal, Held::Row(Row::Names(names))),
+        Stmt::Expr { value } => Node::one(Class::Expr, Held::Expr(value)),
         Stmt::Pass => Node::none(Class::Pass),
         Stmt::Break => Node::none(Class::Break),
         Stmt::Continue => Node::none(Class::Continue),
@@ -143,24 +143,24 @@ pub(crate) fn stmt_node<'a>(version: Version, s: &'a Stmt) -> Node<'a>
 }
 
 /// The field of an expression of a statement that may be absent.
-fn boxed_part<'a>(e: &'a Option<Box<Expr>>) -> Part<'a>
+fn boxed_held<'a>(e: &'a Option<Box<Expr>>) -> Held<'a>
     ensures { (version : AnyVersion) → (rest : Things)
-        → with_part version result rest ≡ expr_field (boxed_of e.now) rest }
+        → with_held version result rest ≡ expr_field (boxed_of e.now) rest }
 {
     match e {
-        None => Part::LeftOut,
-        Some(e) => Part::Expr(e),
+        None => Held::LeftOut,
+        Some(e) => Held::Expr(e),
     }
 }
 
 /// The field of the parameters of a definition's type, which is left out in 3.11.
-fn type_params_part<'a>(version: Version, all: &'a [TypeParam]) -> Part<'a>
-    ensures { with_part version result no_thing
+fn type_params_held<'a>(version: Version, all: &'a [TypeParam]) -> Held<'a>
+    ensures { with_held version result no_thing
         ≡ type_params_field version (map type_param_of all.now) }
 {
     match version {
-        Version::Py311 => Part::LeftOut,
-        Version::Py312 => Part::Row(Row::TypeParams(all)),
+        Version::Py311 => Held::LeftOut,
+        Version::Py312 => Held::Row(Row::TypeParams(all)),
     }
 }
 
@@ -173,13 +173,13 @@ fn function_node<'a>(version: Version, def: &'a FunctionDef) -> Node<'a>
 {
     Node::seven(
         Class::FunctionDef,
-        Part::Leaf(Leaf::Name(&def.name)),
-        Part::Arguments(&def.args),
-        Part::Row(Row::Stmts(&def.body)),
-        Part::Row(Row::Exprs(&def.decorator_list)),
-        boxed_part(&def.returns),
-        Part::LeftOut,
-        type_params_part(version, &def.type_params),
+        Held::Leaf(Leaf::Name(&def.name)),
+        Held::Arguments(&def.args),
+        Held::Row(Row::Stmts(&def.body)),
+        Held::Row(Row::Exprs(&def.decorator_list)),
+        boxed_held(&def.returns),
+        Held::LeftOut,
+        type_params_held(version, &def.type_params),
     )
 }
 
@@ -192,13 +192,13 @@ fn async_function_node<'a>(version: Version, def: &'a FunctionDef) -> Node<'a>
 {
     Node::seven(
         Class::AsyncFunctionDef,
-        Part::Leaf(Leaf::Name(&def.name)),
-        Part::Arguments(&def.args),
-        Part::Row(Row::Stmts(&def.body)),
-        Part::Row(Row::Exprs(&def.decorator_list)),
-        boxed_part(&def.returns),
-        Part::LeftOut,
-        type_params_part(version, &def.type_params),
+        Held::Leaf(Leaf::Name(&def.name)),
+        Held::Arguments(&def.args),
+        Held::Row(Row::Stmts(&def.body)),
+        Held::Row(Row::Exprs(&def.decorator_list)),
+        boxed_held(&def.returns),
+        Held::LeftOut,
+        type_params_held(version, &def.type_params),
     )
 }
 
@@ -211,43 +211,43 @@ fn class_node<'a>(version: Version, class: &'a ClassDef) -> Node<'a>
 {
     Node::six(
         Class::ClassDef,
-        Part::Leaf(Leaf::Name(&class.name)),
-        Part::Row(Row::Exprs(&class.bases)),
-        Part::Row(Row::Keywords(&class.keywords)),
-        Part::Row(Row::Stmts(&class.body)),
-        Part::Row(Row::Exprs(&class.decorator_list)),
-        type_params_part(version, &class.type_params),
+        Held::Leaf(Leaf::Name(&class.name)),
+        Held::Row(Row::Exprs(&class.bases)),
+        Held::Row(Row::Keywords(&class.keywords)),
+        Held::Row(Row::Stmts(&class.body)),
+        Held::Row(Row::Exprs(&class.decorator_list)),
+        type_params_held(version, &class.type_params),
     )
 }
 
 /// The node of a `try`.
 #[tactic(auto, using(pytree_node::proofs::Callers::StmtShapes::stmt_shapes))]
-fn try_node<'a>(parts: &'a Try) -> Node<'a>
-    ensures thing { (version : AnyVersion) → node_thing version result ≡ stmt_thing version (try_block (try_of parts.now)) }
+fn try_node<'a>(held: &'a Try) -> Node<'a>
+    ensures thing { (version : AnyVersion) → node_thing version result ≡ stmt_thing version (try_block (try_of held.now)) }
     ensures len { result.len ≡ field_count result.class }
     ensures room { result.len ≤ 7 }
 {
     Node::four(
         Class::Try,
-        Part::Row(Row::Stmts(&parts.body)),
-        Part::Row(Row::Handlers(&parts.handlers)),
-        Part::Row(Row::Stmts(&parts.orelse)),
-        Part::Row(Row::Stmts(&parts.finalbody)),
+        Held::Row(Row::Stmts(&held.body)),
+        Held::Row(Row::Handlers(&held.handlers)),
+        Held::Row(Row::Stmts(&held.orelse)),
+        Held::Row(Row::Stmts(&held.finalbody)),
     )
 }
 
 /// The node of a `try` with `except*`s.
 #[tactic(auto, using(pytree_node::proofs::Callers::StmtShapes::stmt_shapes))]
-fn try_star_node<'a>(parts: &'a Try) -> Node<'a>
-    ensures thing { (version : AnyVersion) → node_thing version result ≡ stmt_thing version (try_star_block (try_of parts.now)) }
+fn try_star_node<'a>(held: &'a Try) -> Node<'a>
+    ensures thing { (version : AnyVersion) → node_thing version result ≡ stmt_thing version (try_star_block (try_of held.now)) }
     ensures len { result.len ≡ field_count result.class }
     ensures room { result.len ≤ 7 }
 {
     Node::four(
         Class::TryStar,
-        Part::Row(Row::Stmts(&parts.body)),
-        Part::Row(Row::Handlers(&parts.handlers)),
-        Part::Row(Row::Stmts(&parts.orelse)),
-        Part::Row(Row::Stmts(&parts.finalbody)),
+        Held::Row(Row::Stmts(&held.body)),
+        Held::Row(Row::Handlers(&held.handlers)),
+        Held::Row(Row::Stmts(&held.orelse)),
+        Held::Row(Row::Stmts(&held.finalbody)),
     )
 }

@@ -4,9 +4,9 @@
 use Rattle.pytree_node.specs.declared.profiles.Version.{Version}
 use Rattle.pytree_node.specs.Trees
 use Rattle.pytree_node.specs.TreeOf.{tree_of, pattern_of, stmt_of, arg_of, arguments_of, type_param_of}
-use Rattle.pytree_fields.specs.declared.elements.Element.{Element}
-use Rattle.pytree_fields.specs.declared.elements.Element.TheVariants as element
-use Rattle.pytree_fields.specs.Parts.{IsNode, element_thing}
+use Rattle.pytree_fields.specs.declared.children.Child.{Child}
+use Rattle.pytree_fields.specs.declared.children.Child.TheVariants as child
+use Rattle.pytree_fields.specs.LentThings.{IsNode, child_thing}
 use Rattle.pytree_fields.specs.Things.{Thing, Leaf, Row, Node, arg_thing, arguments_thing, expr_thing, pattern_thing, stmt_thing}
 use Rattle.pytree_fields.specs.Things.{type_param_thing}
 
@@ -38,17 +38,17 @@ type_param_class : (p : Trees.TypeParam) → HasClass (type_param_thing p)
 type_param_class (Trees.TypeVar name bound) = tt
 type_param_class _ = tt
 
-pub node_class : (v : Version) (x : Element) → IsNode x → HasClass (element_thing v x)
-node_class v (element.Leaf x) n = n
-node_class v (element.Expr e) n = expr_class (tree_of e.now)
-node_class v (element.Pattern p) n = pattern_class (pattern_of p.now)
-node_class v (element.Stmt s) n = stmt_class v (stmt_of s.now)
-node_class v (element.Handler h) n = tt
-node_class v (element.Case c) n = tt
-node_class v (element.Comprehension c) n = tt
-node_class v (element.Arguments a) n = arguments_class (arguments_of a.now)
-node_class v (element.Arg a) n = arg_class (arg_of a.now)
-node_class v (element.Keyword k) n = tt
-node_class v (element.Alias a) n = tt
-node_class v (element.Item i) n = tt
-node_class v (element.TypeParam p) n = type_param_class (type_param_of p.now)
+pub node_class : (v : Version) (x : Child) → IsNode x → HasClass (child_thing v x)
+node_class v (child.Leaf x) n = n
+node_class v (child.Expr e) n = expr_class (tree_of e.now)
+node_class v (child.Pattern p) n = pattern_class (pattern_of p.now)
+node_class v (child.Stmt s) n = stmt_class v (stmt_of s.now)
+node_class v (child.Handler h) n = tt
+node_class v (child.Case c) n = tt
+node_class v (child.Comprehension c) n = tt
+node_class v (child.Arguments a) n = arguments_class (arguments_of a.now)
+node_class v (child.Arg a) n = arg_class (arg_of a.now)
+node_class v (child.Keyword k) n = tt
+node_class v (child.Alias a) n = tt
+node_class v (child.Item i) n = tt
+node_class v (child.TypeParam p) n = type_param_class (type_param_of p.now)

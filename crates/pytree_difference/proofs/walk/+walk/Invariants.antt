@@ -1,18 +1,18 @@
 use Rattle.std.proofs.Common.{◌≡◌, ◌<◌, ◌+◌, ◌*◌, ℕ, Some}
-use Rattle.pytree_fields.specs.Parts.{element_thing, node_thing, part_thing, row_things}
+use Rattle.pytree_fields.specs.LentThings.{child_thing, node_thing, held_thing, row_things}
 use Rattle.pytree_fields.specs.Things.{Row}
 use Rattle.pytree_difference.specs.Differences.{member}
 use Rattle.pytree_difference.specs.Weights.{option_weight, weight}
 use Rattle.pytree_difference.proofs.walk.+walk.Given as goal
 
-abbrev pub decreases-same_part : goal.decreases-same_part
-decreases-same_part g l = 4 * option_weight (part_thing l.version l.a) + 3
+abbrev pub decreases-same_field : goal.decreases-same_field
+decreases-same_field g l = 4 * option_weight (held_thing l.version l.a) + 3
 
 abbrev pub decreases-same_held : goal.decreases-same_held
-decreases-same_held g l = 4 * option_weight (part_thing l.version l.a) + 2
+decreases-same_held g l = 4 * option_weight (held_thing l.version l.a) + 2
 
-abbrev pub decreases-same_element : goal.decreases-same_element
-decreases-same_element g l = 4 * weight (element_thing l.version l.a) + 1
+abbrev pub decreases-same_child : goal.decreases-same_child
+decreases-same_child g l = 4 * weight (child_thing l.version l.a) + 1
 
 abbrev pub decreases-same_node : goal.decreases-same_node
 decreases-same_node g l = 4 * weight (node_thing l.version l.a.now)

@@ -1,4 +1,4 @@
--- What the parts of a tree that the table lends hold.
+-- What the table lends of a tree, as things.
 use Rattle.std.specs.Prelude.{◌≡◌, ◌≤◌, ℕ, List, [], ◌∷◌, map, take, length, Option, Some, None}
 use Rattle.pytree_node.specs.declared.profiles.Version.{Version}
 use Rattle.pytree_node.specs.Trees.{exprs, optionals, patterns, stmts, handlers, cases, comprehensions, args, keywords}
@@ -7,10 +7,10 @@ use Rattle.pytree_node.specs.TreeOf.{keyword_of, alias_of, item_of, type_param_o
 use Rattle.pytree_fields.specs.declared.leaves.Leaf as given_leaf
 use Rattle.pytree_fields.specs.declared.leaves.Leaf.TheVariants as lent
 use Rattle.pytree_fields.specs.declared.nodes.Node as given_node
-use Rattle.pytree_fields.specs.declared.elements.Element.{Element}
-use Rattle.pytree_fields.specs.declared.elements.Element.TheVariants as element
-use Rattle.pytree_fields.specs.declared.parts.Part.{Part}
-use Rattle.pytree_fields.specs.declared.parts.Part.TheVariants as part
+use Rattle.pytree_fields.specs.declared.children.Child.{Child}
+use Rattle.pytree_fields.specs.declared.children.Child.TheVariants as child
+use Rattle.pytree_fields.specs.declared.held.Held.{Held}
+use Rattle.pytree_fields.specs.declared.held.Held.TheVariants as held
 use Rattle.pytree_fields.specs.declared.rows.Row as given_row
 use Rattle.pytree_fields.specs.declared.rows.Row.TheVariants as row
 use Rattle.pytree_fields.specs.Leaves as leaf
@@ -39,20 +39,20 @@ leaf_of (lent.Flag b) = leaf.Flag b
 leaf_of lent.Kind = leaf.Kind
 leaf_of lent.None = leaf.None
 
-abbrev pub element_thing : Version → Element → Thing
-element_thing v (element.Leaf x) = thing.Leaf (leaf_of x)
-element_thing v (element.Expr e) = expr_thing (tree_of e.now)
-element_thing v (element.Pattern p) = pattern_thing (pattern_of p.now)
-element_thing v (element.Stmt s) = stmt_thing v (stmt_of s.now)
-element_thing v (element.Handler h) = handler_thing v (handler_of h.now)
-element_thing v (element.Case c) = case_thing v (case_of c.now)
-element_thing v (element.Comprehension c) = comprehension_thing (comprehension_of c.now)
-element_thing v (element.Arguments a) = arguments_thing (arguments_of a.now)
-element_thing v (element.Arg a) = arg_thing (arg_of a.now)
-element_thing v (element.Keyword k) = keyword_thing (keyword_of k.now)
-element_thing v (element.Alias a) = alias_thing (alias_of a.now)
-element_thing v (element.Item i) = item_thing (item_of i.now)
-element_thing v (element.TypeParam p) = type_param_thing (type_param_of p.now)
+abbrev pub child_thing : Version → Child → Thing
+child_thing v (child.Leaf x) = thing.Leaf (leaf_of x)
+child_thing v (child.Expr e) = expr_thing (tree_of e.now)
+child_thing v (child.Pattern p) = pattern_thing (pattern_of p.now)
+child_thing v (child.Stmt s) = stmt_thing v (stmt_of s.now)
+child_thing v (child.Handler h) = handler_thing v (handler_of h.now)
+child_thing v (child.Case c) = case_thing v (case_of c.now)
+child_thing v (child.Comprehension c) = comprehension_thing (comprehension_of c.now)
+child_thing v (child.Arguments a) = arguments_thing (arguments_of a.now)
+child_thing v (child.Arg a) = arg_thing (arg_of a.now)
+child_thing v (child.Keyword k) = keyword_thing (keyword_of k.now)
+child_thing v (child.Alias a) = alias_thing (alias_of a.now)
+child_thing v (child.Item i) = item_thing (item_of i.now)
+child_thing v (child.TypeParam p) = type_param_thing (type_param_of p.now)
 
 -- the elements of a list
 abbrev pub row_things : Version → given_row.Row → Things
@@ -90,26 +90,26 @@ row_len (row.Names xs) = length xs.now
 row_len row.TypeIgnores = 0
 
 -- what a field holds, or nothing
-abbrev pub part_thing : Version → Part → Option Thing
-part_thing v (part.Leaf x) = Some (thing.Leaf (leaf_of x))
-part_thing v (part.Expr e) = Some (expr_thing (tree_of e.now))
-part_thing v (part.Pattern p) = Some (pattern_thing (pattern_of p.now))
-part_thing v (part.Arg a) = Some (arg_thing (arg_of a.now))
-part_thing v (part.Arguments a) = Some (arguments_thing (arguments_of a.now))
-part_thing v (part.Row xs) = Some (thing.Row (row_things v xs))
-part_thing v part.LeftOut = None
+abbrev pub held_thing : Version → Held → Option Thing
+held_thing v (held.Leaf x) = Some (thing.Leaf (leaf_of x))
+held_thing v (held.Expr e) = Some (expr_thing (tree_of e.now))
+held_thing v (held.Pattern p) = Some (pattern_thing (pattern_of p.now))
+held_thing v (held.Arg a) = Some (arg_thing (arg_of a.now))
+held_thing v (held.Arguments a) = Some (arguments_thing (arguments_of a.now))
+held_thing v (held.Row xs) = Some (thing.Row (row_things v xs))
+held_thing v held.LeftOut = None
 
--- a part before others
-abbrev pub with_part : Version → Part → Things → Things
-with_part v p rest = with_option (part_thing v p) rest
+-- what a field holds before others
+abbrev pub with_held : Version → Held → Things → Things
+with_held v p rest = with_option (held_thing v p) rest
 
-abbrev pub parts_things : Version → List Part → Things
-parts_things v [] = no_thing
-parts_things v (p ∷ ps) = with_part v p (parts_things v ps)
+abbrev pub held_things : Version → List Held → Things
+held_things v [] = no_thing
+held_things v (p ∷ ps) = with_held v p (held_things v ps)
 
--- a node of the table: those of its parts that count
+-- a node of the table: what those of its fields hold that count
 abbrev pub node_thing : Version → given_node.Node → Thing
-node_thing v n = thing.Node n.class (parts_things v (take n.len n.parts))
+node_thing v n = thing.Node n.class (held_things v (take n.len n.held))
 
 -- what is said of a thing as a node, where it is no leaf
 pub record Describes (v : Version) (n : given_node.Node) (x : Thing) : Type 0 where
@@ -118,31 +118,31 @@ pub record Describes (v : Version) (n : given_node.Node) (x : Thing) : Type 0 wh
   pub room : n.len ≤ 7
 
 -- an element that is no leaf
-abbrev pub IsNode : Element → Type 0
-IsNode (element.Leaf x) = ⊥
-IsNode (element.Expr e) = Unit {0}
-IsNode (element.Pattern p) = Unit {0}
-IsNode (element.Stmt s) = Unit {0}
-IsNode (element.Handler h) = Unit {0}
-IsNode (element.Case c) = Unit {0}
-IsNode (element.Comprehension c) = Unit {0}
-IsNode (element.Arguments a) = Unit {0}
-IsNode (element.Arg a) = Unit {0}
-IsNode (element.Keyword k) = Unit {0}
-IsNode (element.Alias a) = Unit {0}
-IsNode (element.Item i) = Unit {0}
-IsNode (element.TypeParam p) = Unit {0}
+abbrev pub IsNode : Child → Type 0
+IsNode (child.Leaf x) = ⊥
+IsNode (child.Expr e) = Unit {0}
+IsNode (child.Pattern p) = Unit {0}
+IsNode (child.Stmt s) = Unit {0}
+IsNode (child.Handler h) = Unit {0}
+IsNode (child.Case c) = Unit {0}
+IsNode (child.Comprehension c) = Unit {0}
+IsNode (child.Arguments a) = Unit {0}
+IsNode (child.Arg a) = Unit {0}
+IsNode (child.Keyword k) = Unit {0}
+IsNode (child.Alias a) = Unit {0}
+IsNode (child.Item i) = Unit {0}
+IsNode (child.TypeParam p) = Unit {0}
 
 -- the leaf that one is, whatever the version
-abbrev pub LeafOf : Option given_leaf.Leaf → Element → Type 0
+abbrev pub LeafOf : Option given_leaf.Leaf → Child → Type 0
 LeafOf None x = IsNode x
-LeafOf (Some l) x = (v : Version) → element_thing v x ≡ thing.Leaf (leaf_of l)
+LeafOf (Some l) x = (v : Version) → child_thing v x ≡ thing.Leaf (leaf_of l)
 
--- the list that a part is, or its leaf or node
-abbrev pub RowOf : Version → Option given_row.Row → Part → Type 0
-RowOf v None p = NotRow (part_thing v p)
-RowOf v (Some xs) p = Some (thing.Row (row_things v xs)) ≡ part_thing v p
+-- the list that a field holds, or its leaf or node
+abbrev pub RowOf : Version → Option given_row.Row → Held → Type 0
+RowOf v None p = NotRow (held_thing v p)
+RowOf v (Some xs) p = Some (thing.Row (row_things v xs)) ≡ held_thing v p
 
-abbrev pub ElementOf : Version → Option Element → Part → Type 0
-ElementOf v None p = IsRowOrNothing (part_thing v p)
-ElementOf v (Some x) p = Some (element_thing v x) ≡ part_thing v p
+abbrev pub ChildOf : Version → Option Child → Held → Type 0
+ChildOf v None p = IsRowOrNothing (held_thing v p)
+ChildOf v (Some x) p = Some (child_thing v x) ≡ held_thing v p
