@@ -377,10 +377,15 @@ def check_large(checks):
     one = "Assign(targets=[Name(id='x', ctx=Store())], value=Constant(value=1))"
     checks.ends(["dump"], (0, f"Module(body=[{', '.join([one] * rows)}], type_ignores=[])\n", ""), source)
     checks.ends(["unparse"], (0, source.decode(), ""), source)
-    for words in (["dump"], ["unparse"], ["tokens"], ["dump", "--whole", "--attributes"], ["unparse", "--whole"]):
-        checks.ends(words, (1, None, f"<stdin>:{rows + 1}:0: error: unmatched closing bracket\n"), source + b")\n")
-        checks.ends(words, (1, None, "<stdin>:1:2200001: error: unexpected character\n"), (b" " if words == ["tokens"] else b"x") * 2_200_001 + b"$\n")
-        checks.ends(words, (1, None, f"<stdin>:{rows + 1}:12345: error: unexpected character\n"), source + b"x" * 12_345 + b"?\n")
+    checks.ends(["check", "-"], (0, "", ""), source)
+    ways = (*([*words, *way] for words in (["dump"], ["unparse"], ["check", "-"]) for way in ([], ["--whole"], ["--py312"], ["--show"], ["--whole", "--py312", "--show"])),
+            *(["dump", *way] for way in (["--attributes"], ["--bare"], ["--indent", "16"], ["--attributes", "--bare", "--indent", "16", "--whole", "--show"])),
+            *(["tokens", *way] for way in ([], ["-e"], ["--count", "1000000000"])))
+    for words in ways:
+        shown = [f"{row}\n{' ' * min(len(row) - 1, 80)}^\n" if "--show" in words else "" for row in (")", "x" * 80 + "$", "x" * 80 + "?")]
+        checks.ends(words, (1, None, f"<stdin>:{rows + 1}:0: error: unmatched closing bracket\n{shown[0]}"), source + b")\n")
+        checks.ends(words, (1, None, f"<stdin>:1:2200001: error: unexpected character\n{shown[1]}"), (b" " if words[0] == "tokens" else b"x") * 2_200_001 + b"$\n")
+        checks.ends(words, (1, None, f"<stdin>:{rows + 1}:12345: error: unexpected character\n{shown[2]}"), source + b"x" * 12_345 + b"?\n")
     with tempfile.TemporaryFile() as file:
         file.write(b"abc + " * 200_000 + b"x\n")
         file.seek(0)
