@@ -1,10 +1,10 @@
 #!/usr/bin/env python3
 """Runs pyast's commands on hostile sources, each at two sizes, and prints how their time and memory grow.
 
-    bench/growth.py [COMMAND ..] [--program PATH] [--only TEXT]
+    bench/growth.py [COMMAND ..] [--program PATH] [--only TEXT] [--options]
 
-COMMAND is `tokens`, `dump` or `unparse`; without one all three are run. Each source is run as it is, and with a character after it that begins
-no token. Twice the input has to take at most 2.2 times the time and 2.2 times the memory; a line that takes more is marked. Times of less than
+COMMAND is `tokens`, `dump`, `unparse` or `check`; without one all are run. Each source is run as it is, and with a character after it that begins
+no token; with --options also with the options of each command. Twice the input has to take at most 2.2 times the time and 2.2 times the memory; a line that takes more is marked. Times of less than
 20 ms are mostly the start of a process, and peaks of less than 64 MB are in part what each run takes: neither is judged. Each source has to be
 accepted or refused as its table says. All run within the stack of a login shell.
 
@@ -26,7 +26,12 @@ LARGEST_GROWTH = 2.2
 SMALLEST_TIME = 0.02
 SMALLEST_PEAK = 64
 ACCEPTED, REFUSED = 0, 1
-COMMANDS = ("tokens", "dump", "unparse")
+COMMANDS = ("tokens", "dump", "unparse", "check")
+# The options that change what a command does with a source, each time beside those that the source needs.
+OPTIONS = {
+    "tokens": (["-e"], ["--count", "1000000000"]), "unparse": (["--py312"], ["--show"]), "check": (["--py312"], ["--show"]),
+    "dump": (["--attributes"], ["--indent", "16"], ["--bare"], ["--py312"], ["--show"]),
+}
 # The stack that a login shell gives.
 STACK = 8 << 20
 
@@ -135,11 +140,11 @@ def with_fault(source):
 def all_sources():
     """All sources, as they are and with a fault after them."""
     for name, make, listed, read in sources_of_lines():
-        yield Source(name, make, {"tokens": listed, "dump": read, "unparse": read})
+        yield Source(name, make, {"tokens": listed, "dump": read, "unparse": read, "check": read})
     for name, make, read in sources_of_trees():
-        yield Source(name, make, {"dump": read, "unparse": read})
+        yield Source(name, make, {"dump": read, "unparse": read, "check": read})
     for name, make, read in sources_of_formatted():
-        yield Source(name, make, {"dump": read, "unparse": read}, ("--whole",))
+        yield Source(name, make, {"dump": read, "unparse": read, "check": read}, ("--whole",))
 
 
 # --- the table --------------------------------------------------------------------------------------------------------
@@ -169,26 +174,29 @@ def show_growth(command, half, whole, megabytes, due):
     return not marks
 
 
-def measure(program, commands, source, folder):
-    """Measures a source of two sizes by those of some commands that it is for; answers whether all is as it should be."""
+def measure(program, commands, source, folder, with_options):
+    """Measures a source of two sizes by those of some commands that it is for, by each of their options too if asked; answers whether all is well."""
     paths = [os.path.join(folder, f"{size}.py") for size in (1, 2)]
     for size, path in enumerate(paths, 1):
         apart(lambda size=size, path=path: write_bytes(path, source.make(size)))
     well = True
-    for command in commands:
-        rows = [Runs(source.name, [program, command, *source.options, path]) for path in paths]
+    for command, way in ((command, way) for command in commands for way in ([], *(OPTIONS[command] if with_options else ()))):
+        rows = [Runs(source.name, [program, command, *source.options, *way, path]) for path in paths]
         for _ in range(ROUNDS):
             for row in rows:
                 row.run()
+        if way:
+            print(f"{command} {' '.join(way)}:")
         well &= show_growth(command, *rows, os.path.getsize(paths[1]) / MEGABYTE, source.dues[command])
     return well
 
 
 def main():
     parser = argparse.ArgumentParser(description="Runs pyast's commands on hostile sources, each at two sizes.")
-    parser.add_argument("commands", nargs="*", metavar="COMMAND", help="tokens, dump or unparse; default: all")
+    parser.add_argument("commands", nargs="*", metavar="COMMAND", help="tokens, dump, unparse or check; default: all")
     parser.add_argument("--program", metavar="PATH", help="the built program; default: that of this project")
     parser.add_argument("--only", default="", metavar="TEXT", help="only the sources with this text in their names")
+    parser.add_argument("--options", action="store_true", help="each command with each of its options too")
     options = parser.parse_args()
     if set(options.commands) - set(COMMANDS):
         parser.error(f"a COMMAND is one of {', '.join(COMMANDS)}")
@@ -198,7 +206,7 @@ def main():
     print(f"{'command':9}{'source':60}{'MB':>8}{'half, ms':>10}{'whole, ms':>11}{'growth':>8}{'half, MB':>10}{'whole, MB':>11}{'growth':>8}")
     sources = list(all_sources())
     with tempfile.TemporaryDirectory(prefix="pyast-bench-") as folder:
-        found = [measure(program, [one for one in commands if one in source.dues], source, folder) for source in [*sources, *map(with_fault, sources)]
+        found = [measure(program, [one for one in commands if one in source.dues], source, folder, options.options) for source in [*sources, *map(with_fault, sources)]
                  if options.only in source.name and set(commands) & set(source.dues)]
     return int(not all(found))
 
